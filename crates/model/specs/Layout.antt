@@ -1,0 +1,138 @@
+-- Document 01, "Memory": sizes, limits, and where each word stands in the two tables.
+use Prim.Native.Nat.{ℕ, suc, _+_, _*_, _-_, _/_}
+use mathlib.Core.List.{List, [], _∷_}
+use lib.ListN.{length, getD, set, replicate}
+use lib.Seq.{sets}
+use Rattle.model.specs.Types.{Counts, Limits, Version}
+
+-- ---- sizes and limits, each named once
+
+-- "The node table holds 16 words a node"
+abbrev pub nodeWords : ℕ
+nodeWords = 16
+
+-- "The reading table holds 3 words a reading"
+abbrev pub versionWords : ℕ
+versionWords = 3
+
+-- "links of levels 0 to 5"
+abbrev pub topLevel : ℕ
+topLevel = 5
+
+abbrev pub levels : ℕ
+levels = suc topLevel
+
+-- "so K = 1 to 1,023 trays"
+abbrev pub mostNodes : ℕ
+mostNodes = 1_023
+
+-- "so V = 1 to 4,095 readings"
+abbrev pub mostVersions : ℕ
+mostVersions = 4_095
+
+-- "Stations 1 to 8"
+abbrev pub mostProcesses : ℕ
+mostProcesses = 8
+
+-- "The event limit, 1 to 1,000,000,000"
+abbrev pub mostEvents : ℕ
+mostEvents = 1_000_000_000
+
+-- "tray 0 or 4,294,967,295" is refused
+abbrev pub greatestKey : ℕ
+greatestKey = 4_294_967_294
+
+-- "There are seven counts, one an answer."
+abbrev pub answers : ℕ
+answers = 7
+
+-- "a count at 4,294,967,295 stays"
+abbrev pub greatestCount : ℕ
+greatestCount = 4_294_967_295
+
+abbrev pub limitsOf : Limits
+limitsOf = record {
+  nodewords = nodeWords; versionwords = versionWords; top = topLevel; nodes = mostNodes; versions = mostVersions;
+  processes = mostProcesses; events = mostEvents; key = greatestKey; answers = answers
+}
+
+-- K or V of a table: what a table of so many words holds beside its unused first record
+unfoldable pub capacity : (words length : ℕ) → ℕ
+capacity words length = length / words - 1
+
+-- ---- the node table
+
+-- word f of node x
+unfoldable pub word : List ℕ → ℕ → ℕ → ℕ
+word t x f = getD t (nodeWords * x + f) 0
+
+unfoldable pub withWord : List ℕ → ℕ → ℕ → ℕ → List ℕ
+withWord t x f v = set t (nodeWords * x + f) v
+
+-- "word 0 tray number, 1 place of the newest reading, 2 top level, 3 zero,
+-- 4 to 9 links of levels 0 to 5, 10 to 15 locks of levels 0 to 5."
+abbrev pub key : List ℕ → ℕ → ℕ
+key t x = word t x 0
+
+abbrev pub newest : List ℕ → ℕ → ℕ
+newest t x = word t x 1
+
+abbrev pub top : List ℕ → ℕ → ℕ
+top t x = word t x 2
+
+abbrev pub next : List ℕ → ℕ → ℕ → ℕ
+next t l x = word t x (4 + l)
+
+abbrev pub lock : List ℕ → ℕ → ℕ → ℕ
+lock t l x = word t x (10 + l)
+
+abbrev pub withNewest : List ℕ → ℕ → ℕ → List ℕ
+withNewest t x v = withWord t x 1 v
+
+abbrev pub withNext : List ℕ → ℕ → ℕ → ℕ → List ℕ
+withNext t l x y = withWord t x (4 + l) y
+
+abbrev pub withLock : List ℕ → ℕ → ℕ → ℕ → List ℕ
+withLock t l x holder = withWord t x (10 + l) holder
+
+-- "A new tray's sixteen words are written as one record": "Its link at level 0 is the one p had, its other links and
+-- its locks are 0"
+abbrev pub nodeRecord : (key newest top next : ℕ) → List ℕ
+nodeRecord k v t y = k ∷ v ∷ t ∷ 0 ∷ y ∷ 0 ∷ 0 ∷ 0 ∷ 0 ∷ 0 ∷ 0 ∷ 0 ∷ 0 ∷ 0 ∷ 0 ∷ 0 ∷ []
+
+unfoldable pub withNode : List ℕ → ℕ → (key newest top next : ℕ) → List ℕ
+withNode t x k v tp y = sets t (nodeWords * x) (nodeRecord k v tp y)
+
+-- "Opening zeroes both tables and sets word 2 of node 0 to 5."
+unfoldable pub freshNodes : ℕ → List ℕ
+freshNodes n = withWord (replicate n 0) 0 2 topLevel
+
+-- ---- the version table
+
+-- word f of version i: "value, stamp, place of the previous one (0 for none)"
+unfoldable pub field : List ℕ → ℕ → ℕ → ℕ
+field t i f = getD t (versionWords * i + f) 0
+
+abbrev pub value : List ℕ → ℕ → ℕ
+value t i = field t i 0
+
+abbrev pub timestamp : List ℕ → ℕ → ℕ
+timestamp t i = field t i 1
+
+abbrev pub prev : List ℕ → ℕ → ℕ
+prev t i = field t i 2
+
+abbrev pub versionAt : List ℕ → ℕ → Version
+versionAt t i = record { value = value t i; timestamp = timestamp t i }
+
+unfoldable pub withVersion : List ℕ → ℕ → Version → (prev : ℕ) → List ℕ
+withVersion t i v p = sets t (versionWords * i) (v .value ∷ v .timestamp ∷ p ∷ [])
+
+-- ---- both
+
+-- Both tables and the counts in use. "In use are nodes 0 up to the count of trays made and places 1 up to the count of
+-- readings held, both counts in the state."
+pub record Memory : Type 0 where
+  pub nodes : List ℕ
+  pub versions : List ℕ
+  pub counts : Counts

@@ -1,0 +1,11 @@
+pub mod Types
+pub mod Choice
+pub mod Layout
+pub mod Numbers
+pub mod Map
+pub mod State
+pub mod Phases
+pub mod Calls
+pub mod Inspection
+pub mod History
+pub mod Linearizability

@@ -1,0 +1,44 @@
+-- Document 01's number of each refusal, place of each answer in the tally, and what goes with an answer.
+use Prim.Native.Nat.{ℕ}
+use Rattle.model.specs.Types.{Answer, TooOld, VersionsFull, Added, KeysFull, New, Found, None, Refusal, NodeLength, VersionLength, ProcessCount, EventLimit, NoProcess, BadKey, Busy, NoCall, Spent, Corrupt, Damaged, NoKey, NoVersion, NotOpen, UnknownCommand, CutShort, Version}
+
+unfoldable pub numberOf : Refusal → ℕ
+numberOf NodeLength = 1
+numberOf VersionLength = 2
+numberOf ProcessCount = 3
+numberOf EventLimit = 4
+numberOf NoProcess = 5
+numberOf BadKey = 6
+numberOf Busy = 7
+numberOf NoCall = 8
+numberOf Spent = 9
+numberOf Corrupt = 10
+numberOf Damaged = 11
+numberOf NoKey = 12
+numberOf NoVersion = 13
+numberOf NotOpen = 14
+numberOf UnknownCommand = 15
+numberOf CutShort = 16
+
+-- "There are seven counts, one an answer", in the order of the plain ledger's answers
+unfoldable pub placeOf : Answer → ℕ
+placeOf TooOld = 0
+placeOf VersionsFull = 1
+placeOf Added = 2
+placeOf KeysFull = 3
+placeOf New = 4
+placeOf Found = 5
+placeOf None = 6
+
+abbrev pub noVersion : Version
+noVersion = record { value = 0; timestamp = 0 }
+
+-- "value, stamp (the call's own for a put; 0 and 0 for none)"; with found go those of the newest version
+abbrev pub versionWith : Answer → (own newest : Version) → Version
+versionWith TooOld own newest = own
+versionWith VersionsFull own newest = own
+versionWith Added own newest = own
+versionWith KeysFull own newest = own
+versionWith New own newest = own
+versionWith Found own newest = newest
+versionWith None own newest = noVersion

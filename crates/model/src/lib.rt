@@ -1,0 +1,2 @@
+// The types of the store, by value. Their meaning stands in specs/, what follows from it in proofs/.
+pub mod types;

@@ -1,0 +1,281 @@
+// The state of the store and the outcome of each call, by value.
+ghost use mathlib.Core.Path.{_≡_};
+ghost use Rattle.model.specs.Layout.{limitsOf};
+ghost use Rattle.model.specs.State.{idleProcess, freshState, closedState};
+
+// What a process was asked for; `Idle` where it has no call.
+pub enum Kind {
+    Idle,
+    Put,
+    Get,
+}
+
+// Where a call stands. The comment names the procedure of figure 1 that the phase is a part of.
+pub enum Phase {
+    Walk,    // findAll
+    Read,    // get
+    Seek,    // findLock: the search
+    Lock,    // findLock: the lock
+    Check,   // findLock: the second look, under the lock
+    Update,  // update
+    Make,    // createAndLink
+    Link,    // link
+    Release, // insert, insertAll: unlock
+}
+
+// Document 01's answers, in the order in which its plain ledger names them.
+pub enum Answer {
+    TooOld,
+    VersionsFull,
+    Added,
+    KeysFull,
+    New,
+    Found,
+    None,
+}
+
+// Document 01's refusals 1 to 16, in its order.
+pub enum Refusal {
+    NodeLength,
+    VersionLength,
+    ProcessCount,
+    EventLimit,
+    NoProcess,
+    BadKey,
+    Busy,
+    NoCall,
+    Spent,
+    Corrupt,
+    Damaged,
+    NoKey,
+    NoVersion,
+    NotOpen,
+    UnknownCommand,
+    CutShort,
+}
+
+// What was asked, and the tick of its start: no step changes it.
+pub struct Call {
+    pub kind: Kind,
+    pub key: u32,
+    pub value: u32,
+    pub timestamp: u32,
+    pub top: u32,
+    pub start: u32,
+}
+
+// Where the call stands: document 01's level L, node p and new node.
+pub struct Cursor {
+    pub phase: Phase,
+    pub level: u32,
+    pub pred: u32,
+    pub made: u32,
+}
+
+// The linearization point of the call, once it is there; its tick is 0 before.
+pub struct Effect {
+    pub answer: Answer,
+    pub tick: u32,
+}
+
+// Document 01's station. `preds` has the node remembered at each level.
+pub struct Process {
+    pub call: Call,
+    pub cursor: Cursor,
+    pub effect: Effect,
+    pub preds: [u32; 6],
+}
+
+// Nodes (the head not counted) and versions in use.
+pub struct Counts {
+    pub nodes: u32,
+    pub versions: u32,
+}
+
+// Lengths of the lent tables, in words.
+pub struct Lengths {
+    pub nodes: u32,
+    pub versions: u32,
+}
+
+pub struct State {
+    pub opened: bool,
+    pub processes: u32,
+    pub limit: u32,
+    pub events: u32,
+    pub lengths: Lengths,
+    pub counts: Counts,
+    pub process: [Process; 8],
+}
+
+// A version of a key's value: document 01's reading.
+pub struct Version {
+    pub value: u32,
+    pub timestamp: u32,
+}
+
+// Where a node's link leads, against a key.
+pub enum Ahead {
+    Unused,     // to a node that is not in use
+    Less(u32),  // to this node, with a smaller key
+    Equal(u32), // to this node, with the key
+    Past,       // to the end, or to a greater key
+}
+
+// What a phase asks of the process.
+pub enum Move {
+    Refuse,                     // damage
+    Wait,                       // the lock is held
+    Go(Cursor),                 // the cursor moves
+    Note(Cursor),               // the same, and the predecessor is remembered at its level
+    Commit(Cursor, Answer),     // the put takes effect with this answer
+    End(Answer, Version, u32),  // the call ends with this answer, version and effect tick
+}
+
+// The call may go on, or is refused.
+pub enum Permit {
+    Granted,
+    Denied(Refusal),
+}
+
+// What the finishing step tells of a call.
+pub struct Finish {
+    pub kind: Kind,
+    pub answer: Answer,
+    pub value: u32,
+    pub timestamp: u32,
+    pub start: u32,
+    pub effect: u32,
+    pub finish: u32,
+}
+
+// Outcomes of opening, of a start and of a step, each beside the state that it leaves.
+pub enum Opening {
+    Refused(Refusal),
+    Opened,
+}
+
+pub struct OpenResult {
+    pub outcome: Opening,
+    pub state: State,
+}
+
+pub enum Starting {
+    Refused(Refusal),
+    Started(u32),
+}
+
+pub struct StartResult {
+    pub outcome: Starting,
+    pub state: State,
+}
+
+pub enum Stepping {
+    Refused(Refusal),
+    Moved(u32),
+    Waited(u32),
+    Finished(Finish),
+}
+
+pub struct StepResult {
+    pub outcome: Stepping,
+    pub state: State,
+}
+
+// Outcomes of the calls that change nothing.
+pub enum Looking {
+    Refused(Refusal),
+    Shown(Version),
+}
+
+// Document 01's inspection: sound, or the level and the node reached.
+pub enum Inspecting {
+    Refused(Refusal),
+    Sound,
+    Fault(u32, u32),
+}
+
+// Document 01's standing: idle, or the call's kind, start tick and effect tick.
+pub enum Status {
+    Refused(Refusal),
+    Idle,
+    Running(Kind, u32, u32),
+}
+
+// The sizes and limits of document 01 as numbers, for whoever lends memory.
+pub struct Limits {
+    pub nodewords: u32,
+    pub versionwords: u32,
+    pub top: u32,
+    pub nodes: u32,
+    pub versions: u32,
+    pub processes: u32,
+    pub events: u32,
+    pub key: u32,
+    pub answers: u32,
+}
+
+impl Process {
+    // A process without a call.
+    pub fn idle() -> Self
+        ensures { λ r. ⌜ r ≡ idleProcess ⌝ }
+    {
+        let call = Call { kind: Kind::Idle, key: 0, value: 0, timestamp: 0, top: 0, start: 0 };
+        let cursor = Cursor { phase: Phase::Walk, level: 0, pred: 0, made: 0 };
+        let effect = Effect { answer: Answer::None, tick: 0 };
+        let preds = [0; 6];
+        Self { call, cursor, effect, preds }
+    }
+}
+
+impl State {
+    // Words of a node and of a version.
+    pub const NODE_WORDS: u32 = 16;
+    pub const VERSION_WORDS: u32 = 3;
+    // The highest level.
+    pub const TOP: u32 = 5;
+    // At most so many nodes, versions, processes, events and answers, and the greatest key.
+    pub const NODES: u32 = 1023;
+    pub const VERSIONS: u32 = 4095;
+    pub const PROCESSES: u32 = 8;
+    pub const EVENTS: u32 = 1000000000;
+    pub const KEY: u32 = 4294967294;
+    pub const ANSWERS: u32 = 7;
+
+    pub fn limits() -> Limits
+        ensures { λ r. ⌜ r ≡ limitsOf ⌝ }
+    {
+        Limits {
+            nodewords: Self::NODE_WORDS,
+            versionwords: Self::VERSION_WORDS,
+            top: Self::TOP,
+            nodes: Self::NODES,
+            versions: Self::VERSIONS,
+            processes: Self::PROCESSES,
+            events: Self::EVENTS,
+            key: Self::KEY,
+            answers: Self::ANSWERS,
+        }
+    }
+
+    // The state that an accepted opening leaves.
+    pub fn fresh(processes: u32, limit: u32, lengths: Lengths) -> Self
+        ensures { λ r. ⌜ r ≡ freshState processes limit lengths ⌝ }
+    {
+        let idle = Process::idle();
+        let process = [idle; 8];
+        let counts = Counts { nodes: 0, versions: 0 };
+        Self { opened: true, processes, limit, events: 0, lengths, counts, process }
+    }
+
+    // The state that a refused opening gives.
+    pub fn closed() -> Self
+        ensures { λ r. ⌜ r ≡ closedState ⌝ }
+    {
+        let idle = Process::idle();
+        let process = [idle; 8];
+        let lengths = Lengths { nodes: 0, versions: 0 };
+        let counts = Counts { nodes: 0, versions: 0 };
+        Self { opened: false, processes: 0, limit: 0, events: 0, lengths, counts, process }
+    }
+}
