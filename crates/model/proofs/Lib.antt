@@ -6,3 +6,5 @@ pub mod Invariant
 pub mod Frame
 pub mod Alike
 pub mod Step
+pub mod Locking
+pub mod Update
