@@ -8,3 +8,5 @@ pub mod Alike
 pub mod Step
 pub mod Locking
 pub mod Update
+pub mod Make
+pub mod Link
