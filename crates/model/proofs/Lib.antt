@@ -10,3 +10,5 @@ pub mod Locking
 pub mod Update
 pub mod Make
 pub mod Link
+pub mod Turn
+pub mod Locks
