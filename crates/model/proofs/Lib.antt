@@ -12,3 +12,5 @@ pub mod Make
 pub mod Link
 pub mod Turn
 pub mod Locks
+pub mod Effects
+pub mod Live
