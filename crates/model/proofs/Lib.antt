@@ -14,3 +14,5 @@ pub mod Turn
 pub mod Locks
 pub mod Effects
 pub mod Live
+pub mod Started
+pub mod Stepped

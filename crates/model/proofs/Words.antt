@@ -5,7 +5,7 @@ use mathlib.Core.Logic.{_≢_}
 use mathlib.Core.Path.{_≡_, refl, ap, _∙_}
 use native.Mathlib.Nat.{add-zero}
 use native.Mathlib.Omega.{arith}
-use lib.ListN.{length, getD, set, length-set}
+use lib.ListN.{length, getD, set, replicate, length-set}
 use lib.Seq.{sets, length-sets, getD-set-same, getD-set-other}
 use Rattle.model.specs.Types.{Version}
 use Rattle.model.specs.Layout.{nodeWords, versionWords, word, withWord, field, nodeRecord, withNode, withVersion}
@@ -104,3 +104,9 @@ node-locks k v tp y (suc (suc (suc zero))) h = refl
 node-locks k v tp y (suc (suc (suc (suc zero)))) h = refl
 node-locks k v tp y (suc (suc (suc (suc (suc zero))))) h = refl
 node-locks k v tp y (suc (suc (suc (suc (suc (suc l)))))) h = absurd (omega arith)
+
+-- a list of one word, wherever it is read
+pub filled : {A : Type 0} (n i : ℕ) (a : A) → getD (replicate n a) i a ≡ a
+filled zero i a = refl
+filled (suc n) zero a = refl
+filled (suc n) (suc i) a = filled n i a

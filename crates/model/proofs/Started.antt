@@ -1,0 +1,175 @@
+-- A start keeps the invariant of a run: it is refused as the observer expects, or the process begins at the head.
+use Prim.Native.Nat.{ℕ, zero, suc, _+_, _≤_, _<_}
+use mathlib.Core.Bool.{Bool, true, false, not, _&&_}
+use mathlib.Core.List.{List, [], _∷_, _++_}
+use mathlib.Core.Logic.{_≢_, inl, inr}
+use mathlib.Core.Path.{_≡_, refl, sym, ap, _∙_, subst}
+use native.Mathlib.Omega.{arith}
+use native.Mathlib.Numerals.{add-one}
+use lib.Dec.{T, eqb, leb, leb→le, nleb→lt}
+use lib.ListN.{length, getD, set, replicate, length-set, length-append}
+use lib.Seq.{getD-set-same, getD-set-other}
+use Rattle.model.specs.Types.{Kind, Idle, Put, Get, Walk, None, Refusal, Call, Process, Permit, Granted, Denied, Starting}
+use Rattle.model.specs.Choice.{if_then_else_}
+use Rattle.model.specs.Layout.{greatestKey}
+use Rattle.model.specs.Map.{Map}
+use Rattle.model.specs.Numbers.{numberOf}
+use Rattle.model.specs.State.{noProcess, lawfulKey, isIdle, withEvent}
+use Rattle.model.specs.Calls.{denyIf, Store, startPermit, begun, startBy}
+use Rattle.model.specs.History.{Action, Operation, Invoked, History, tickOf, startDue, isGranted, isDenied, unless, invokedAt, sawRefusal, sawStart, withState}
+use Rattle.model.specs.Linearizability.{fedBy, All}
+use Rattle.model.proofs.Tests.{if-by, and→, T-absurd, by-eq, eq→eqb}
+use Rattle.model.proofs.Words.{filled}
+use Rattle.model.proofs.Invariant.{Ghost, At, Placed, PlacedOf, Fits, Climbs}
+use Rattle.model.proofs.Effects.{nothing, took, fed, nothing≢took, all-map}
+use Rattle.model.proofs.Live.{memory, slot, Core, Track, Left, Before, Hist, Live, Event, event-hist, done-grow, core-lawful, idle-is, not-idle, one-busy, none-busy, busy-set, invoked-same, invoked-other, refused-live}
+
+-- what is refused is what is due
+pub due-denied : {K W : ℕ} {w : Store} {h : History} (d : Permit) (r : Refusal) → d ≡ Denied r → Live K W w h → Live K W w (sawRefusal h (isDenied d r))
+due-denied d r e l = refused-live (isDenied d r) (subst (λ q. T (isDenied q r)) (sym e) (eq→eqb (numberOf r) (numberOf r) refl)) l
+
+-- and an event that is due, with the right tick, is no fault
+pub no-fault : (d : Permit) (t n : ℕ) → d ≡ Granted → t ≡ n → unless (isGranted d && eqb t n) ≡ 0
+no-fault d t n e q = rw (e, Rattle.model.proofs.Tests.is-true (eqb t n) (eq→eqb t n q))
+
+pub granted≢denied : {r : Refusal} → Denied r ≡ Granted → ⊥
+granted≢denied e = let z : _≡_ {A = ℕ} 0 1 = cc in omega arith
+
+pub record Allowed (h : History) (i k : ℕ) : Type 0 where
+  pub below : i < h .processes
+  pub key-low : 1 ≤ k
+  pub idle : h .invoked i .operation .kind ≡ Idle
+  pub time : length (h .log) < h .limit
+
+allowed : (h : History) (i k : ℕ) → startDue h i k ≡ Granted → Allowed h i k
+unfolding startDue
+allowed h i k =
+    let P : Permit → Type 0 = λ d. d ≡ Granted → Allowed h i k in
+    let idle = isIdle (h .invoked i .operation .kind) in
+    if-by P (leb (h .processes) i) (λ t e. absurd (granted≢denied e)) λ t1.
+    if-by P (not (lawfulKey k)) (λ t e. absurd (granted≢denied e)) λ t2.
+    if-by P (not idle) (λ t e. absurd (granted≢denied e)) λ t3.
+    if-by P (leb (h .limit) (length (h .log))) (λ t e. absurd (granted≢denied e)) λ t4 e. record {
+      below = nleb→lt (h .processes) i t1;
+      key-low = leb→le 1 k (and→ (leb 1 k) (leb k greatestKey) (plain (lawfulKey k) t2) .0);
+      idle = idle-is (h .invoked i .operation .kind) (plain idle t3);
+      time = nleb→lt (h .limit) (length (h .log)) t4
+    }
+  where
+    plain : (x : Bool) → T (not (not x)) → T x
+    plain true t = tt
+    plain false t = t
+
+module _ {K W : ℕ} {w : Store} {h : History} (l : Live K W w h) (i : ℕ) (a : Action) (call : Call)
+    (start-is : call .start ≡ w .state .events + 1) (top5 : call .top ≤ 5) (busy : call .kind ≢ Idle) where
+  abbrev operation : Operation
+  operation = record { kind = call .kind; key = call .key; value = call .value; timestamp = call .timestamp }
+
+  abbrev invoked₀ : Invoked
+  invoked₀ = record { operation = operation; start = tickOf h }
+
+  abbrev invoked′ : ℕ → Invoked
+  invoked′ = invokedAt (h .invoked) i invoked₀
+
+  due : startPermit (w .state) (w .nodes) (w .versions) i (call .key) ≡ startDue h i (call .key)
+  unfolding startPermit startDue
+  due =
+      let k = l .hist in
+      rw (core-lawful (l .core), k .processes-is, k .limit-is, k .ticks, ap (λ (c : Invoked). c .operation .kind) (k .track i .same)) refl
+
+  begun-fits : (k : Kind) → call .kind ≡ k → k ≢ Idle → PlacedOf (memory w) (l .g) (begun call) → Fits (memory w) (l .g) i (begun call)
+  begun-fits Idle e ne q = absurd (ne refl)
+  begun-fits Get e ne q = record { kind = Get; phase = Walk; kind-is = e; phase-is = refl; ok = (q, (refl, refl)) }
+  begun-fits Put e ne q = record { kind = Put; phase = Walk; kind-is = e; phase-is = refl; ok = (q, (refl, refl)) }
+
+  begun-placed : 1 ≤ call .key → PlacedOf (memory w) (l .g) (begun call)
+  begun-placed low = record { top5 = top5; six = refl; spot = head 5 (omega arith); memo = λ j h6. rw (filled {A = ℕ} 6 j 0) (head j h6) }
+    where
+      head : (j : ℕ) → j < 6 → At (memory w) (l .g) j 0 (call .key)
+      head j h6 = record { used = omega arith; up = omega (arith, l .core .nodes .head-high); low = omega (arith, l .core .nodes .head-key) }
+
+  module _ (al : Allowed h i (call .key)) where
+    below : i < w .state .processes
+    below = omega (arith, al .below, l .hist .processes-is)
+
+    resting : slot w i .call .kind ≡ Idle
+    resting = sym (ap (λ (c : Invoked). c .operation .kind) (l .hist .track i .same)) ∙ al .idle
+
+    inside : i < length (w .state .process)
+    inside = omega (arith, l .core .array, l .core .processes .1, below)
+
+    here : getD (set (w .state .process) i (begun call)) i noProcess ≡ begun call
+    here = getD-set-same (w .state .process) i (begun call) noProcess inside
+
+    there : (j : ℕ) → j ≢ i → getD (set (w .state .process) i (begun call)) j noProcess ≡ slot w j
+    there j ne = getD-set-other (w .state .process) i j (begun call) noProcess ne
+
+    idle≢put : slot w i .call .kind ≡ Put → ⊥
+    idle≢put e = let f : Idle ≡ Put = sym resting ∙ e in let z : _≡_ {A = ℕ} 0 1 = cc in omega arith
+
+    start-core : Core (withState w (withEvent (w .state) i (w .state .counts) (begun call))) (l .g) (l .b)
+    start-core =
+        let k = l .core in
+        record {
+          opened = k .opened; processes = k .processes; limit = k .limit;
+          events = omega (arith, al .time, l .hist .ticks, l .hist .limit-is);
+          node-length = k .node-length; version-length = k .version-length; nodes-lent = k .nodes-lent; versions-lent = k .versions-lent;
+          tally = k .tally; array = length-set (w .state .process) i (begun call) ∙ k .array; nodes = k .nodes; book = k .book;
+          fits = λ j. by-eq j i
+            (λ e. rw (e, here) (begun-fits (call .kind) refl busy (begun-placed (al .key-low))))
+            (λ ne. rw (there j ne) (k .fits j));
+          tops = λ x u f. k .tops x u (λ j. by-eq j i
+            (λ e c. idle≢put (subst (λ q. slot w q .call .kind ≡ Put) e (c .kind)))
+            (λ ne c. f j (rw (there j ne) c)));
+          locks = λ j. by-eq j i
+            (λ e l x h6 hx q. absurd (k .locks i l x h6 hx (q ∙ ap suc e) .kind resting))
+            (λ ne. rw (there j ne) (k .locks j));
+          beyond = λ j u. ap (λ (q : Process). q .call .kind) (there j (omega (arith, below))) ∙ k .beyond j u
+        }
+
+    start-hist : startDue h i (call .key) ≡ Granted
+      → Hist K W (withState w (withEvent (w .state) i (w .state .counts) (begun call))) (sawStart h a i operation (Starting.Started (w .state .events + 1)))
+        (l .b) (l .eff ++ (nothing ∷ []))
+    unfolding sawStart fed
+    start-hist granted =
+        let k = l .core in
+        let q = l .hist in
+        let i8 : i < 8 = omega (arith, k .processes .1, below) in
+        event-hist K W w h (l .b) (l .eff) q (k .array) i i8 a nothing (memory w) (begun call) (w .tally) invoked′ (suc (h .starts)) (h .completed)
+          (h .faults + unless (isGranted (startDue h i (call .key)) && eqb (w .state .events + 1) (tickOf h))) (l .b) (record {
+            K-same = refl; W-same = refl; map-is = refl;
+            others = λ j ne. invoked-other (h .invoked) i invoked₀ j ne;
+            track = record {
+              same = invoked-same (h .invoked) i invoked₀
+                ∙ ap (λ n. record { operation = operation; start = n }) (omega (arith, q .ticks, start-is));
+              resting = λ e. refl;
+              begun = omega (arith, q .ticks, start-is, length-append (h .log) (a ∷ []));
+              entered = λ ne. absurd (ne refl)
+            };
+            done = done-grow K W w h (l .b) (l .eff) q (k .array) i i8 a nothing (memory w) (begun call) (w .tally) invoked′ (suc (h .starts)) (h .completed) 0 (l .b);
+            kept = λ n j c d. d;
+            old = λ n c e f. absurd (omega (arith, q .track i .resting resting));
+            now = λ n j c e f. absurd (nothing≢took f);
+            tally = q .tally;
+            counted = omega (arith, q .counted, busy-set (w .state .process) i (w .state .processes) (begun call) below inside,
+              none-busy (slot w i .call .kind) resting, one-busy (call .kind) busy);
+            few = omega (arith, q .few);
+            no-faults = omega (arith, q .faults, no-fault (startDue h i (call .key)) (w .state .events + 1) (tickOf h) granted (omega (arith, q .ticks)));
+            past = λ j ks. by-eq j i
+              (λ e. all-map (λ d s r. omega (arith, s .ended, ap (λ (y : Invoked). y .start) (ap invoked′ e ∙ invoked-same (h .invoked) i invoked₀)))
+                (h .completed) (q .done))
+              (λ ne. let e = invoked-other (h .invoked) i invoked₀ j ne in
+                subst (λ (y : Invoked). All (λ (d : Rattle.model.specs.History.Completed). d .process ≡ j → d .ended < y .start) (h .completed)) (sym e)
+                  (q .past j (λ z. ks (ap (λ (y : Invoked). y .operation .kind) e ∙ z))));
+            pairs = q .pairs
+          })
+
+  pub start-live : Live K W (withState w (startBy (startPermit (w .state) (w .nodes) (w .versions) i (call .key)) (w .state) i call .state))
+    (sawStart h a i operation (startBy (startPermit (w .state) (w .nodes) (w .versions) i (call .key)) (w .state) i call .outcome))
+  start-live = rw due (go (startDue h i (call .key)) refl)
+    where
+      go : (d : Permit) → startDue h i (call .key) ≡ d
+        → Live K W (withState w (startBy d (w .state) i call .state)) (sawStart h a i operation (startBy d (w .state) i call .outcome))
+      go (Denied r) e = unfold startBy sawStart in (due-denied (startDue h i (call .key)) r e l)
+      go Granted e = unfold startBy in (let al = allowed h i (call .key) e in
+          record { g = l .g; b = l .b; eff = l .eff ++ (nothing ∷ []); core = start-core al; hist = start-hist al e })
