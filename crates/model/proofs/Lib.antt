@@ -16,3 +16,15 @@ pub mod Effects
 pub mod Live
 pub mod Started
 pub mod Stepped
+pub mod Looked
+pub mod Opened
+pub mod Stops
+pub mod Counting
+pub mod ChainBound
+pub mod ChainInspected
+pub mod LevelBound
+pub mod LevelTurn
+pub mod LevelInspected
+pub mod Inspected
+pub mod Rested
+pub mod Claimed

@@ -27,11 +27,11 @@ chainAges m (suc fuel) i =
     else if ltb (timestamp (m .versions) i) (timestamp (m .versions) (prev (m .versions) i)) then false
     else chainAges m fuel (prev (m .versions) i)
 
--- the chain of node x, whose versions are at most those in use
+-- the chain of node x: one turn more than versions in use, so that the first place is tested even where none is
 unfoldable pub chainSound : Memory → ℕ → Bool
 chainSound m x =
     let i = newest (m .nodes) x in
-    let fuel = m .counts .versions in
+    let fuel = m .counts .versions + 1 in
     chainFalls m fuel i && chainAges m fuel i
 
 -- "at level 0, for a node other than 0"

@@ -7,5 +7,6 @@ pub mod State
 pub mod Phases
 pub mod Calls
 pub mod Inspection
+pub mod Soundness
 pub mod History
 pub mod Linearizability
