@@ -41,14 +41,19 @@ nodes-kept {m} {m′} {g} A N =
       high = λ x h. N .high x (omega arith);
       inj = λ x y hx hy e. N .inj x y (omega arith) (omega arith) (sym (A .keys x (omega arith)) ∙ e ∙ A .keys y (omega arith));
       levels = λ l. kept (N .levels l) (λ x i. (omega (arith, i .0), i .1)) (λ x i. (omega (arith, i .0), i .1))
-        (λ x i. A .keys x (i .0)) (λ x i. A .links l x i)
+          (λ x i. A .keys x (i .0)) (λ x i. A .links l x i);
     }
 
 pub grown-alike : {m m′ : Memory} {g : Ghost} (i : ℕ) → Alike m m′ g → Grown m m′ g g i
 grown-alike {m} {m′} {g} i A =
     let n = A .count-is in
     record {
-      more = omega arith; keys = A .keys; grow = λ x h. omega arith; owns = λ x h. refl; mine = λ x h e. refl; tops = λ x h e. A .tops x h
+      more = omega arith;
+      keys = A .keys;
+      grow = λ x h. omega arith;
+      owns = λ x h. refl;
+      mine = λ x h e. refl;
+      tops = λ x h e. A .tops x h;
     }
 
 pub frame-alike : {m m′ : Memory} {g : Ghost} {i : ℕ} → Alike m m′ g
@@ -89,7 +94,7 @@ module _ (m : Memory) (g : Ghost) (N : Nodes m g) (c : Cursor) (v : ℕ) (l6 : c
     count-is = refl;
     keys = λ x h. lock-field x 0 (omega arith) (omega arith);
     tops = λ x h. lock-field x 2 (omega arith) (omega arith);
-    links = λ j x i. let j6 = six i in lock-field x (4 + j) (omega arith) (omega arith)
+    links = λ j x i. let j6 = six i in lock-field x (4 + j) (omega arith) (omega arith);
   }
 
   pub lock-set : lock (m′ .nodes) (c .level) (c .pred) ≡ v
@@ -104,15 +109,16 @@ module _ (m : Memory) (g : Ghost) (N : Nodes m g) (c : Cursor) (v : ℕ) (l6 : c
     keys = λ i h. rw (lock-field (suc i) 0 (omega arith) (omega arith)) (B .keys i h);
     places = λ i h. rw (lock-field (suc i) 1 (omega arith) (omega arith)) (B .places i h);
     chains = λ i h. rw (lock-field (suc i) 1 (omega arith) (omega arith)) (B .chains i h);
-    sorted = B .sorted
+    sorted = B .sorted;
   }
 
   pub lock-frame : (i : ℕ) → lock (m .nodes) (c .level) (c .pred) ≢ suc i → Frame m m′ g g i
   lock-frame i ne = frame-alike lock-alike (λ j x h e. let j6 = six h in
       word-other (m .nodes) (c .pred) x (10 + c .level) (10 + j) v (omega arith) (omega arith)
-        (λ ex ej. ne (sym (same j x ex (cut ej)) ∙ e)) ∙ e)
+      (λ ex ej. ne (sym (same j x ex (cut ej)) ∙ e)) ∙ e)
     where
       cut : {j : ℕ} → 10 + j ≡ 10 + c .level → j ≡ c .level
       cut q = omega arith
+
       same : (j x : ℕ) → x ≡ c .pred → j ≡ c .level → lock (m .nodes) j x ≡ lock (m .nodes) (c .level) (c .pred)
       same j x ex ej = rw (ex, ej) refl

@@ -18,15 +18,16 @@ module _ (m : Memory) where
       let h = falls-turn m fuel i t in
       by-eq (back i) 0 (λ z. oldest (h .0) z)
       λ ne. let r = ages-turn m fuel i s ne in
-        older (h .0) (h .1) (r .0) (walks-mean fuel (back i) (enough-back m fuel i e (h .0) (h .1) ne) (h .2 ne) (r .1))
+      older (h .0) (h .1) (r .0) (walks-mean fuel (back i) (enough-back m fuel i e (h .0) (h .1) ne) (h .2 ne) (r .1))
 
   means-walks : (fuel i : ℕ) → Enough m fuel i → ChainSound m i → T (chainFalls m fuel i) × T (chainAges m fuel i)
   means-walks zero i e c = absurd (omega arith)
   means-walks (suc fuel) i e (oldest u z) =
       (turn-falls m fuel i u (omega arith) (λ ne. absurd (ne z)), turn-ages m fuel i (λ ne. absurd (ne z)))
-  means-walks (suc fuel) i e (older u lt le c) =
-      (turn-falls m fuel i u lt (λ ne. means-walks fuel (back i) (enough-back m fuel i e u lt ne) c .0),
-       turn-ages m fuel i (λ ne. (le, means-walks fuel (back i) (enough-back m fuel i e u lt ne) c .1)))
+  means-walks (suc fuel) i e (older u lt le c) = (
+    turn-falls m fuel i u lt (λ ne. means-walks fuel (back i) (enough-back m fuel i e u lt ne) c .0),
+    turn-ages m fuel i (λ ne. (le, means-walks fuel (back i) (enough-back m fuel i e u lt ne) c .1)),
+  )
 
   pub chain-means : (x : ℕ) → T (chainSound m x) → ChainSound m (newest (m .nodes) x)
   unfolding chainSound

@@ -57,6 +57,7 @@ fed-is (e ∷ es) n i c K W b a y = if-eq (λ (z : Map). z ≡ fedBy (c .operati
   where
     same : {j : ℕ} {d : Invoked} → took j d ≡ took i c → d ≡ c
     same q = cc
+
     rest : e .tick ≢ suc n → Any (AtTick (suc n)) (e ∷ es) → Any (AtTick (suc n)) es
     rest q (inl z) = absurd (q z)
     rest q (inr z) = z
@@ -118,24 +119,24 @@ module _ {K W : ℕ} {w : Store} {h : History} (v : Live K W w h) where
   entered i ne = let e = k .track i .entered ne in (e .before, e .tick-is, e .within, e .took-is)
 
   all-running : (P : Effected → Type 0) (n : ℕ) → n ≤ w .state .processes
-    → ((i : ℕ) → i < n → tickAt i ≢ 0 → P (record { process = i; invoked = h .invoked i; tick = tickAt i }))
-    → All P (runningEffects (w .state) (h .invoked) n)
+      → ((i : ℕ) → i < n → tickAt i ≢ 0 → P (record { process = i; invoked = h .invoked i; tick = tickAt i }))
+      → All P (runningEffects (w .state) (h .invoked) n)
   unfolding runningEffects
   all-running P zero le f = tt
   all-running P (suc n) le f = rw (status-is (v .core) n (omega arith))
       (all-append P (shownEffect (standing (slot w n .call .kind) (slot w n)) n (h .invoked n)) (runningEffects (w .state) (h .invoked) n)
-        (shown (slot w n) n (h .invoked n) (k .track n .resting) (λ (l : List Effected). All P l) (λ e. tt) (λ ne. (f n (omega arith) ne, tt)))
-        (all-running P n (omega arith) (λ i lt. f i (omega arith))))
+      (shown (slot w n) n (h .invoked n) (k .track n .resting) (λ (l : List Effected). All P l) (λ e. tt) (λ ne. (f n (omega arith) ne, tt)))
+      (all-running P n (omega arith) (λ i lt. f i (omega arith))))
 
   any-running : (n i t : ℕ) → n ≤ w .state .processes → i < n → tickAt i ≡ suc t → Any (AtTick (suc t)) (runningEffects (w .state) (h .invoked) n)
   unfolding runningEffects
   any-running zero i t le lt e = absurd (omega arith)
   any-running (suc n) i t le lt e = rw (status-is (v .core) n (omega arith)) (by-eq i n
       (λ q. any-left (AtTick (suc t)) (shownEffect (standing (slot w n .call .kind) (slot w n)) n (h .invoked n)) (runningEffects (w .state) (h .invoked) n)
-        (shown (slot w n) n (h .invoked n) (k .track n .resting) (λ (l : List Effected). Any (AtTick (suc t)) l)
-          (λ z. absurd (omega (arith, subst (λ j. tickAt j ≡ suc t) q e))) (λ ne. inl (subst (λ j. tickAt j ≡ suc t) q e))))
+      (shown (slot w n) n (h .invoked n) (k .track n .resting) (λ (l : List Effected). Any (AtTick (suc t)) l)
+      (λ z. absurd (omega (arith, subst (λ j. tickAt j ≡ suc t) q e))) (λ ne. inl (subst (λ j. tickAt j ≡ suc t) q e))))
       (λ q. any-right (AtTick (suc t)) (shownEffect (standing (slot w n .call .kind) (slot w n)) n (h .invoked n)) (runningEffects (w .state) (h .invoked) n)
-        (any-running n i t (omega arith) (omega arith) e)))
+      (any-running n i t (omega arith) (omega arith) e)))
 
   stands-done : (l : List Completed) → All (Settles K W (h .log) (v .eff)) l → All Stands (completedEffects l)
   unfolding completedEffects
@@ -159,8 +160,9 @@ module _ {K W : ℕ} {w : Store} {h : History} (v : Live K W w h) where
       below j e = by-le (w .state .processes) j
           (λ le. absurd (omega (arith, k .track j .resting (v .core .beyond j le))))
           (λ lt. omega (arith, k .processes-is))
+
       go : Any (EndedAt n i c) (h .completed) ⊎ ((h .invoked i ≡ c) × (tickAt i ≡ suc n))
-        → Any (AtTick (suc n)) (completedEffects (h .completed) ++ runningEffects (w .state) (h .invoked) (h .processes))
+          → Any (AtTick (suc n)) (completedEffects (h .completed) ++ runningEffects (w .state) (h .invoked) (h .processes))
       go (inl a) = any-left (AtTick (suc n)) (completedEffects (h .completed)) (runningEffects (w .state) (h .invoked) (h .processes)) (any-ended n i c (h .completed) a)
       go (inr r) = any-right (AtTick (suc n)) (completedEffects (h .completed)) (runningEffects (w .state) (h .invoked) (h .processes))
           (any-running (h .processes) i n processes-le (below i (r .1)) (r .1))
@@ -193,10 +195,12 @@ module _ {K W : ℕ} {w : Store} {h : History} (v : Live K W w h) where
   right d q =
       let e = q .entered in
       record {
-        kind = q .kind; start = q .start; finish = q .finish;
+        kind = q .kind;
+        start = q .start;
+        finish = q .finish;
         effect = record { before = e .before; tick-is = e .tick-is; own-step = e .own-step; after-start = e .after-start };
         in-time = omega (arith, q .in-time, q .finish);
-        answer = ap (λ (b : Map). replyOf K W b (d .invoked .operation)) (map-is (e .before) (omega (arith, e .within))) ∙ e .replies
+        answer = ap (λ (b : Map). replyOf K W b (d .invoked .operation)) (map-is (e .before) (omega (arith, e .within))) ∙ e .replies;
       }
 
   -- ---- no two effects at one tick
@@ -212,43 +216,53 @@ module _ {K W : ℕ} {w : Store} {h : History} (v : Live K W w h) where
   running-apart zero le = tt
   running-apart (suc n) le = rw (status-is (v .core) n (omega arith))
       (shown (slot w n) n (h .invoked n) (k .track n .resting) (λ (l : List Effected). Distinct (l ++ runningEffects (w .state) (h .invoked) n))
-        (λ e. running-apart n (omega arith))
-        (λ ne. (all-running (λ (f : Effected). f .tick ≢ tickAt n) n (omega arith) (λ i lt ni q. apart i lt ni ne q), running-apart n (omega arith))))
+      (λ e. running-apart n (omega arith))
+      (λ ne. (all-running (λ (f : Effected). f .tick ≢ tickAt n) n (omega arith) (λ i lt ni q. apart i lt ni ne q), running-apart n (omega arith))))
     where
       apart : (i : ℕ) → i < n → tickAt i ≢ 0 → tickAt n ≢ 0 → tickAt i ≡ tickAt n → ⊥
-      apart i lt ni nn q = omega (arith, clash (record { process = n; invoked = h .invoked n; tick = tickAt n })
-        (record { process = i; invoked = h .invoked i; tick = tickAt i }) (entered n nn) (entered i ni) q)
+      apart i lt ni nn q = omega (
+        arith,
+        clash (record { process = n; invoked = h .invoked n; tick = tickAt n })
+            (record { process = i; invoked = h .invoked i; tick = tickAt i }) (entered n nn) (entered i ni) q,
+      )
 
   invoked-busy : (i : ℕ) → tickAt i ≢ 0 → h .invoked i .operation .kind ≢ Idle
   invoked-busy i ne q = ne (k .track i .resting (sym (ap (λ (y : Invoked). y .operation .kind) (k .track i .same)) ∙ q))
 
   done-apart : (l : List Completed) → All (Settles K W (h .log) (v .eff)) l → Pairs l
-    → ((i : ℕ) → h .invoked i .operation .kind ≢ Idle → All (λ (d : Completed). d .process ≡ i → d .ended < h .invoked i .start) l)
-    → Distinct (completedEffects l ++ runningEffects (w .state) (h .invoked) (h .processes))
+      → ((i : ℕ) → h .invoked i .operation .kind ≢ Idle → All (λ (d : Completed). d .process ≡ i → d .ended < h .invoked i .start) l)
+      → Distinct (completedEffects l ++ runningEffects (w .state) (h .invoked) (h .processes))
   unfolding completedEffects
   done-apart [] a p r = running-apart (h .processes) processes-le
-  done-apart (d ∷ l) a p r =
-      (all-append (λ (f : Effected). f .tick ≢ d .told .effect) (completedEffects l) (runningEffects (w .state) (h .invoked) (h .processes))
+  done-apart (d ∷ l) a p r = (
+    all-append (λ (f : Effected). f .tick ≢ d .told .effect) (completedEffects l) (runningEffects (w .state) (h .invoked) (h .processes))
         (older l (a .1) (p .0)) (all-running (λ (f : Effected). f .tick ≢ d .told .effect) (h .processes) processes-le (λ i lt ne q. later i ne q)),
-      done-apart l (a .1) (p .1) (λ i b. r i b .1))
+    done-apart l (a .1) (p .1) (λ i b. r i b .1),
+  )
     where
       ed : Entered K W (h .log) (v .eff) (d .process) (d .invoked) (d .told .effect) (told-reply d)
       ed = a .0 .entered
+
       here : Effected
       here = record { process = d .process; invoked = d .invoked; tick = d .told .effect }
+
       later : (i : ℕ) → tickAt i ≢ 0 → tickAt i ≡ d .told .effect → ⊥
       later i ne q =
           let e = k .track i .entered ne in
           let y = clash here (record { process = i; invoked = h .invoked i; tick = tickAt i }) (ed .before, ed .tick-is, ed .within, ed .took-is) (entered i ne) q in
           omega (arith, r i (invoked-busy i ne) .0 (sym y), e .after-start, a .0 .in-time)
+
       older : (ds : List Completed) → All (Settles K W (h .log) (v .eff)) ds → All (λ (e : Completed). e .process ≡ d .process → e .ended < d .invoked .start) ds
-        → All (λ (f : Effected). f .tick ≢ d .told .effect) (completedEffects ds)
+          → All (λ (f : Effected). f .tick ≢ d .told .effect) (completedEffects ds)
       older [] s t = unfold completedEffects in tt
-      older (e ∷ ds) s t = unfold completedEffects in ((λ q.
-          (let en = s .0 .entered in
-          let y = clash here (record { process = e .process; invoked = e .invoked; tick = e .told .effect }) (ed .before, ed .tick-is, ed .within, ed .took-is)
+      older (e ∷ ds) s t = unfold completedEffects in (
+        (λ q.
+            (let en = s .0 .entered in
+            let y = clash here (record { process = e .process; invoked = e .invoked; tick = e .told .effect }) (ed .before, ed .tick-is, ed .within, ed .took-is)
             (en .before, en .tick-is, en .within, en .took-is) q in
-          omega (arith, t .0 y, ed .after-start, s .0 .in-time))), older ds (s .1) (t .1))
+            omega (arith, t .0 y, ed .after-start, s .0 .in-time))),
+        older ds (s .1) (t .1),
+      )
 
   -- ---- the claim
 
@@ -268,15 +282,15 @@ module _ {K W : ℕ} {w : Store} {h : History} (v : Live K W w h) where
     limit = omega (arith, k .ticks, k .limit-is, v .core .events);
     completed = all-map right (h .completed) (k .done);
     standing = λ i lt. rw (status-is (v .core) i (omega (arith, k .processes-is)))
-      (shows (h .log) i (h .invoked i) (slot w i) (ap (λ (c : Invoked). c .operation .kind) (k .track i .same)) (ap (λ (c : Invoked). c .start) (k .track i .same)) (timely i));
+        (shows (h .log) i (h .invoked i) (slot w i) (ap (λ (c : Invoked). c .operation .kind) (k .track i .same)) (ap (λ (c : Invoked). c .start) (k .track i .same)) (timely i));
     distinct = done-apart (h .completed) (k .done) (k .pairs) (k .past);
     looks = all-map (λ q a. a .1 ∙ ap (λ (b : Map). if lawfulKey (q .key) then lookIn b (q .key) (q .back) else Looking.Refused BadKey) (sym (map-is (q .events) (a .0))))
-      (h .queries) (k .looks);
+        (h .queries) (k .looks);
     tally = k .tally;
     tally-words = v .core .tally;
     starts = k .counted ∙ ap (λ n. length (h .completed) + n) (ap (busyBelow (w .state .process)) (sym (k .processes-is)) ∙ sym (runs-below (h .processes) processes-le));
     faults = k .faults;
-    idle-sound = λ f. idle-sound (v .core) (λ i lt. f i (omega (arith, k .processes-is)))
+    idle-sound = λ f. idle-sound (v .core) (λ i lt. f i (omega (arith, k .processes-is)));
   }
 
 -- ---- the list

@@ -25,9 +25,11 @@ one-mono false b h = omega arith
 pub count-mono : (f g : ℕ → Bool) (n : ℕ) → Within n f g → count f n ≤ count g n
 unfolding count
 count-mono f g zero h = omega arith
-count-mono f g (suc n) h = omega (arith,
+count-mono f g (suc n) h = omega (
+  arith,
   one-mono (f (suc n)) (g (suc n)) (h (suc n) (omega arith) (omega arith)),
-  count-mono f g n (λ x a b. h x a (omega arith)))
+  count-mono f g n (λ x a b. h x a (omega arith)),
+)
 
 pub count-most : (f : ℕ → Bool) (n : ℕ) → count f n ≤ n
 unfolding count
@@ -37,9 +39,11 @@ count-most f (suc n) = omega (arith, one-mono (f (suc n)) true (λ _. tt), count
 pub count-none : (f : ℕ → Bool) (n : ℕ) → ((x : ℕ) → 1 ≤ x → x ≤ n → T (f x) → ⊥) → count f n ≡ 0
 unfolding count
 count-none f zero h = refl
-count-none f (suc n) h = omega (arith,
+count-none f (suc n) h = omega (
+  arith,
   one-mono (f (suc n)) false (h (suc n) (omega arith) (omega arith)),
-  count-none f n (λ x a b. h x a (omega arith)))
+  count-none f n (λ x a b. h x a (omega arith)),
+)
 
 -- ---- one number less
 
@@ -58,23 +62,32 @@ count-without f zero y a b t = absurd (omega arith)
 count-without f (suc n) y a b t = by-eq y (suc n) last (λ ne. before ne (count-without f n y a (omega arith) t))
   where
     last : y ≡ suc n → count f (suc n) ≡ suc (count (without f y) (suc n))
-    last e = omega (arith,
-      one-mono true (f (suc n)) (λ _. subst (λ x. T (f x)) e t), one-mono (f (suc n)) true (λ _. tt),
+    last e = omega (
+      arith,
+      one-mono true (f (suc n)) (λ _. subst (λ x. T (f x)) e t),
+      one-mono (f (suc n)) true (λ _. tt),
       one-mono (without f y (suc n)) false (λ u. without→ f y (suc n) u .1 (sym e)),
       count-mono f (without f y) n (λ x i j u. →without f y x u (omega arith)),
-      count-mono (without f y) f n (λ x i j u. without→ f y x u .0))
+      count-mono (without f y) f n (λ x i j u. without→ f y x u .0),
+    )
+
     before : y ≢ suc n → count f n ≡ suc (count (without f y) n) → count f (suc n) ≡ suc (count (without f y) (suc n))
-    before ne e = omega (arith,
+    before ne e = omega (
+      arith,
       one-mono (f (suc n)) (without f y (suc n)) (λ u. →without f y (suc n) u (omega arith)),
-      one-mono (without f y (suc n)) (f (suc n)) (λ u. without→ f y (suc n) u .0))
+      one-mono (without f y (suc n)) (f (suc n)) (λ u. without→ f y (suc n) u .0),
+    )
 
 -- ---- f wider than g
 
 -- by a number that passes f alone: f's count is greater
 pub count-less : (f g : ℕ → Bool) (n y : ℕ) → 1 ≤ y → y ≤ n → T (f y) → (T (g y) → ⊥) → Within n g f
-  → count g n < count f n
-count-less f g n y a b t alone h = omega (arith, count-without f n y a b t,
-  count-mono g (without f y) n (λ x i j u. →without f y x (h x i j u) (λ e. alone (subst (λ z. T (g z)) e u))))
+    → count g n < count f n
+count-less f g n y a b t alone h = omega (
+  arith,
+  count-without f n y a b t,
+  count-mono g (without f y) n (λ x i j u. →without f y x (h x i j u) (λ e. alone (subst (λ z. T (g z)) e u))),
+)
 
 -- so by none, if f's count is not greater
 pub count-all : (f g : ℕ → Bool) (n : ℕ) → Within n g f → count f n ≤ count g n → Within n f g

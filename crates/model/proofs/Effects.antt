@@ -79,13 +79,17 @@ module _ (K W : ℕ) (log : List Action) (eff : List Took) (a : Action) (x : Too
     after-start = e .after-start;
     own-step = List·getD-append log (a ∷ []) (look 0 0) (e .before) (omega (arith, e .within)) ∙ e .own-step;
     took-is = List·getD-append eff (x ∷ []) nothing (e .before) (e .within) ∙ e .took-is;
-    replies = ap (λ l. replyOf K W (played K W [] l) (c .operation)) (take-append-le (e .before) eff (x ∷ []) (omega (arith, e .within))) ∙ e .replies
+    replies = ap (λ l. replyOf K W (played K W [] l) (c .operation)) (take-append-le (e .before) eff (x ∷ []) (omega (arith, e .within))) ∙ e .replies;
   }
 
   pub settles-grow : (d : Completed) → Settles K W log eff d → Settles K W (log ++ (a ∷ [])) (eff ++ (x ∷ [])) d
   settles-grow d h = record {
-    kind = h .kind; start = h .start; finish = h .finish; ended = omega (arith, h .ended, length-append log (a ∷ []));
-    in-time = h .in-time; entered = entered-grow (h .entered)
+    kind = h .kind;
+    start = h .start;
+    finish = h .finish;
+    ended = omega (arith, h .ended, length-append log (a ∷ []));
+    in-time = h .in-time;
+    entered = entered-grow (h .entered);
   }
 
   pub looked-grow : (q : Query) → LookedAt K W eff q → LookedAt K W (eff ++ (x ∷ [])) q
@@ -93,7 +97,7 @@ module _ (K W : ℕ) (log : List Action) (eff : List Took) (a : Action) (x : Too
 
   -- the effect of this very event
   pub entered-now : (i : ℕ) (c : Invoked) (r : Reply) → a ≡ step i → x ≡ took i c → c .start ≤ length log
-    → replyOf K W (played K W [] eff) (c .operation) ≡ r → Entered K W (log ++ (a ∷ [])) (eff ++ (x ∷ [])) i c (suc (length log)) r
+      → replyOf K W (played K W [] eff) (c .operation) ≡ r → Entered K W (log ++ (a ∷ [])) (eff ++ (x ∷ [])) i c (suc (length log)) r
   entered-now i c r ea ex st h = record {
     before = length log;
     tick-is = refl;
@@ -101,14 +105,14 @@ module _ (K W : ℕ) (log : List Action) (eff : List Took) (a : Action) (x : Too
     after-start = omega arith;
     own-step = getD-at log a [] (look 0 0) (length log) refl ∙ ea;
     took-is = getD-at eff x [] nothing (length log) even ∙ ex;
-    replies = ap (λ l. replyOf K W (played K W [] l) (c .operation)) (take-at eff (x ∷ []) (length log) even) ∙ h
+    replies = ap (λ l. replyOf K W (played K W [] l) (c .operation)) (take-at eff (x ∷ []) (length log) even) ∙ h;
   }
 
   -- an effect in the longer list is an old one or this event's
   pub effect-cases : {P : Type 0} (n i : ℕ) (c : Invoked) → getD (eff ++ (x ∷ [])) n nothing ≡ took i c
-    → (getD eff n nothing ≡ took i c → P) → (n ≡ length log → x ≡ took i c → P) → P
+      → (getD eff n nothing ≡ took i c → P) → (n ≡ length log → x ≡ took i c → P) → P
   effect-cases n i c e old now = by-le (length eff) n
       (λ le. by-eq n (length log)
-        (λ q. now q (sym (getD-at eff x [] nothing n (even ∙ sym q)) ∙ e))
-        (λ q. absurd (nothing≢took (sym (List·getD-eq-default (eff ++ (x ∷ [])) nothing (omega (arith, length-append eff (x ∷ [])))) ∙ e))))
+      (λ q. now q (sym (getD-at eff x [] nothing n (even ∙ sym q)) ∙ e))
+      (λ q. absurd (nothing≢took (sym (List·getD-eq-default (eff ++ (x ∷ [])) nothing (omega (arith, length-append eff (x ∷ [])))) ∙ e))))
       (λ lt. old (sym (List·getD-append eff (x ∷ []) nothing n lt) ∙ e))

@@ -27,10 +27,15 @@ pub record Frame (m m′ : Memory) (g g′ : Ghost) (i : ℕ) : Type 0 where
 pub frame-refl : (m : Memory) (g : Ghost) (i : ℕ) → Frame m m g g i
 frame-refl m g i = record {
   grown = record {
-    more = omega arith; keys = λ x h. refl; grow = λ x h. omega arith; owns = λ x h. refl; mine = λ x h e. refl; tops = λ x h e. refl
+    more = omega arith;
+    keys = λ x h. refl;
+    grow = λ x h. omega arith;
+    owns = λ x h. refl;
+    mine = λ x h e. refl;
+    tops = λ x h e. refl;
   };
   locks = λ l x h e. e;
-  links = λ l x h e. refl
+  links = λ l x h e. refl;
 }
 
 module _ {m m′ : Memory} {g g′ : Ghost} {i : ℕ} (F : Grown m m′ g g′ i) where
@@ -53,7 +58,7 @@ module _ {m m′ : Memory} {g g′ : Ghost} {i : ℕ} (F : Grown m m′ g g′ i
         height-is = F .mine x (f .used) (f .mine) ∙ f .height-is;
         mine = F .owns x (f .used) ∙ f .mine;
         key-is = F .keys x (f .used) ∙ f .key-is;
-        top-is = F .tops x (f .used) (f .mine) ∙ f .top-is
+        top-is = F .tops x (f .used) (f .mine) ∙ f .top-is;
       }
 
   pub stage-kept : (e : Effect) (tp x k l : ℕ) → Stage m g i e tp x k l → Stage m′ g′ i e tp x k l
@@ -98,7 +103,7 @@ module _ {m m′ : Memory} {g g′ : Ghost} {i : ℕ} (F : Frame m m′ g g′ i
       record {
         some = rw e (t .some);
         used = rw e (omega (arith, t .used));
-        key-is = rw e (F .grown .keys (next (m .nodes) l p) (t .used) ∙ t .key-is)
+        key-is = rw e (F .grown .keys (next (m .nodes) l p) (t .used) ∙ t .key-is);
       }
 
   ok-kept : (pr : Process) (k : Kind) (ph : Phase) → Ok m g i pr k ph → Ok m′ g′ i pr k ph
@@ -118,20 +123,39 @@ module _ {m m′ : Memory} {g g′ : Ghost} {i : ℕ} (F : Frame m m′ g g′ i
   ok-kept pr Put Lock c = (placed-kept (F .grown) (c .0), stage-of-kept (F .grown) pr (c .1))
   ok-kept pr Put Check c =
       (placed-kept (F .grown) (c .0), stage-of-kept (F .grown) pr (c .1), held-kept (c .0 .spot) (c .2))
-  ok-kept pr Put Update c =
-      (placed-kept (F .grown) (c .0), stage-of-kept (F .grown) pr (c .1), held-kept (c .0 .spot) (c .2), c .3,
-        target-kept (c .0 .spot) (c .2) (c .4))
-  ok-kept pr Put Make c =
-      (placed-kept (F .grown) (c .0), stage-of-kept (F .grown) pr (c .1), held-kept (c .0 .spot) (c .2), c .3,
-        clear-kept (c .0 .spot) (c .2) (c .4))
-  ok-kept pr Put Link c =
-      (placed-kept (F .grown) (c .0), stage-of-kept (F .grown) pr (c .1), held-kept (c .0 .spot) (c .2), c .3,
-        clear-kept (c .0 .spot) (c .2) (c .4))
-  ok-kept pr Put Release c =
-      (placed-kept (F .grown) (c .0), c .1, held-kept (c .0 .spot) (c .2),
-        settled-kept (F .grown) (pr .call .top) (pr .cursor .made) (pr .call .key) (pr .cursor .level) (pr .effect .answer) (c .3))
+  ok-kept pr Put Update c = (
+    placed-kept (F .grown) (c .0),
+    stage-of-kept (F .grown) pr (c .1),
+    held-kept (c .0 .spot) (c .2),
+    c .3,
+    target-kept (c .0 .spot) (c .2) (c .4),
+  )
+  ok-kept pr Put Make c = (
+    placed-kept (F .grown) (c .0),
+    stage-of-kept (F .grown) pr (c .1),
+    held-kept (c .0 .spot) (c .2),
+    c .3,
+    clear-kept (c .0 .spot) (c .2) (c .4),
+  )
+  ok-kept pr Put Link c = (
+    placed-kept (F .grown) (c .0),
+    stage-of-kept (F .grown) pr (c .1),
+    held-kept (c .0 .spot) (c .2),
+    c .3,
+    clear-kept (c .0 .spot) (c .2) (c .4),
+  )
+  ok-kept pr Put Release c = (
+    placed-kept (F .grown) (c .0),
+    c .1,
+    held-kept (c .0 .spot) (c .2),
+    settled-kept (F .grown) (pr .call .top) (pr .cursor .made) (pr .call .key) (pr .cursor .level) (pr .effect .answer) (c .3),
+  )
 
   pub fits-kept : {pr : Process} → Fits m g i pr → Fits m′ g′ i pr
   fits-kept {pr} f = record {
-    kind = f .kind; phase = f .phase; kind-is = f .kind-is; phase-is = f .phase-is; ok = ok-kept pr (f .kind) (f .phase) (f .ok)
+    kind = f .kind;
+    phase = f .phase;
+    kind-is = f .kind-is;
+    phase-is = f .phase-is;
+    ok = ok-kept pr (f .kind) (f .phase) (f .ok);
   }

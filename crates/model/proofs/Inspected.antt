@@ -54,9 +54,9 @@ module _ (m : Memory) where
   pub sound-means : inspection m ≡ Inspecting.Sound → Sound m
   unfolding inspection
   sound-means e = record {
-      levels = λ l h. right l h .0;
-      chains = λ x a b. versions-mean x a (right 0 (omega arith) .1 x (b, λ _. omega arith))
-    }
+    levels = λ l h. right l h .0;
+    chains = λ x a b. versions-mean x a (right 0 (omega arith) .1 x (b, λ _. omega arith));
+  }
     where
       right : (l : ℕ) → l < levels → LevelRight m l
       right l h = level-means m l (levels-mean levels 0 e l (omega arith) h)

@@ -31,6 +31,7 @@ kept {In} {In′} {key} {key′} {next} {next′} L down up keys links = record 
         let kx = keys x (down x hx) in
         let ky = keys (next x) (s .0) in
         rw e (up (next x) (s .0), omega arith)
+
     gp : (x z : ℕ) → In′ x → In′ z → key′ x < key′ z → (next′ x ≢ 0) × (key′ (next′ x) ≤ key′ z)
     gp x z hx hz lt =
         let e = links x (down x hx) in
@@ -120,6 +121,7 @@ module _ {In In′ : ℕ → Type 0} {key key′ next next′ : ℕ → ℕ} {p 
           let kn = I .keys (next x) (s .0) in
           let l = I .low in
           rw (I .others x hx np) (g .0, omega arith)
+
       above : key p ≤ key x → (next′ x ≢ 0) × (key′ (next′ x) ≤ key′ y)
       above h =
           let kx = I .keys x hx in
@@ -133,21 +135,24 @@ module _ {In In′ : ℕ → Type 0} {key key′ next next′ : ℕ → ℕ} {p 
     where
       st-old : (x : ℕ) → In x → next′ x ≢ 0 → In′ (next′ x) × (key′ x < key′ (next′ x))
       st-old x hx ne = by-eq x p (λ e. rw e step-p) (λ np. step-old x hx np ne)
+
       st : (x : ℕ) → In′ x → next′ x ≢ 0 → In′ (next′ x) × (key′ x < key′ (next′ x))
       st x hx ne = by-eq x y
           (λ e. rw e (step-new (λ z. ne (ap next′ e ∙ z))))
           (λ ny. st-old x (I .down x hx ny) ne)
+
       gp-old : (x z : ℕ) → In x → In′ z → key′ x < key′ z → (next′ x ≢ 0) × (key′ (next′ x) ≤ key′ z)
       gp-old x z hx hz lt = by-eq x p
           (λ e. by-eq z y
-            (λ ez. rw (e, ez) gap-p-new)
-            (λ nz. rw e (gap-p z (I .down z hz nz) (rw e at lt))))
+          (λ ez. rw (e, ez) gap-p-new)
+          (λ nz. rw e (gap-p z (I .down z hz nz) (rw e at lt))))
           (λ np. by-eq z y
-            (λ ez. rw ez (gap-old-new x hx np (rw ez at lt)))
-            (λ nz. gap-old x z hx np (I .down z hz nz) lt))
+          (λ ez. rw ez (gap-old-new x hx np (rw ez at lt)))
+          (λ nz. gap-old x z hx np (I .down z hz nz) lt))
+
       gp : (x z : ℕ) → In′ x → In′ z → key′ x < key′ z → (next′ x ≢ 0) × (key′ (next′ x) ≤ key′ z)
       gp x z hx hz lt = by-eq x y
           (λ e. by-eq z y
-            (λ ez. absurd (omega (arith, ap key′ e, ap key′ ez)))
-            (λ nz. rw e (gap-new z (I .down z hz nz) (rw e at lt))))
+          (λ ez. absurd (omega (arith, ap key′ e, ap key′ ez)))
+          (λ nz. rw e (gap-new z (I .down z hz nz) (rw e at lt))))
           (λ ny. gp-old x z (I .down x hx ny) hz lt)

@@ -40,9 +40,9 @@ module _ (m : Memory) (l : ℕ) where
   pub fewer-ahead : (x y : ℕ) → y ≢ 0 → On m l y → keyOf x < keyOf y → ahead y < ahead x
   fewer-ahead x y ny o lt =
       count-less (above (keyOf x)) (above (keyOf y)) (m .counts .nodes) y (omega arith) (o .0)
-        (→above (keyOf x) y ny o lt)
-        (λ t. let a = above→ (keyOf y) y (o .0) t in omega arith)
-        (λ z i h t. let a = above→ (keyOf y) z h t in →above (keyOf x) z (omega arith) (a .0) (omega arith))
+      (→above (keyOf x) y ny o lt)
+      (λ t. let a = above→ (keyOf y) y (o .0) t in omega arith)
+      (λ z i h t. let a = above→ (keyOf y) z h t in →above (keyOf x) z (omega arith) (a .0) (omega arith))
 
   pub ahead-most : (x : ℕ) → ahead x < m .counts .nodes + 1
   ahead-most x = omega (arith, count-most (above (keyOf x)) (m .counts .nodes))
@@ -66,7 +66,7 @@ module _ (m : Memory) (l : ℕ) where
 
   -- the inspection's bound, which starts at node 0
   pub level-bound : (fuel seen x : ℕ) → m .counts .nodes + 1 ≤ fuel
-    → levelFrom m l fuel seen x ≡ levelFrom m l (m .counts .nodes + 1) seen x
+      → levelFrom m l fuel seen x ≡ levelFrom m l (m .counts .nodes + 1) seen x
   level-bound fuel seen x h =
       let a = ahead-most x in
       level-fuel fuel (m .counts .nodes + 1) seen x (omega arith) (omega arith)

@@ -50,15 +50,17 @@ module _ (m : Memory) (l : ℕ) where
         free = eqb→eq (locked x) 0 (not-not→ (eqb (locked x) 0) (a .0));
         versions = not-not→ (versionsSound m l x) (b .0);
         ended = λ e.
-          let c = if-met Faultless (eqb (to x) 0) (λ t _. neqb→ne (to x) 0 t e) (b .1) in
-          nltb→le seen all (if-passed Faultless (ltb seen all) (λ _. fault x) (c .1) .0);
+            let c = if-met Faultless (eqb (to x) 0) (λ t _. neqb→ne (to x) 0 t e) (b .1) in
+            nltb→le seen all (if-passed Faultless (ltb seen all) (λ _. fault x) (c .1) .0);
         onward = λ ne.
-          let c = if-passed Faultless (eqb (to x) 0) (λ t _. ne (eqb→eq (to x) 0 t)) (b .1) in
-          let u = if-passed Faultless (ltb (m .counts .nodes) (to x)) (λ _. fault x) (c .1) in
-          let k = if-passed Faultless (leb (keyOf (to x)) (keyOf x)) (λ _. fault x) (u .1) in
-          let t = if-passed Faultless (ltb (topOf (to x)) l) (λ _. fault x) (k .1) in
-          ((nltb→le (m .counts .nodes) (to x) (u .0), λ _. nltb→le (topOf (to x)) l (t .0)),
-            nleb→lt (keyOf (to x)) (keyOf x) (k .0), t .1)
+            let c = if-passed Faultless (eqb (to x) 0) (λ t _. ne (eqb→eq (to x) 0 t)) (b .1) in
+            let u = if-passed Faultless (ltb (m .counts .nodes) (to x)) (λ _. fault x) (c .1) in
+            let k = if-passed Faultless (leb (keyOf (to x)) (keyOf x)) (λ _. fault x) (u .1) in
+            let t = if-passed Faultless (ltb (topOf (to x)) l) (λ _. fault x) (k .1) in (
+              (nltb→le (m .counts .nodes) (to x) (u .0), λ _. nltb→le (topOf (to x)) l (t .0)),
+              nleb→lt (keyOf (to x)) (keyOf x) (k .0),
+              t .1,
+            );
       }
 
   pub turn-faultless : (fuel seen x : ℕ) → Turn fuel seen x → Faultless (levelFrom m l (suc fuel) seen x)
@@ -67,14 +69,14 @@ module _ (m : Memory) (l : ℕ) where
       if-by Faultless (not (eqb (locked x) 0)) (λ b. absurd (neqb→ne (locked x) 0 b (t .free)))
       λ _. if-by Faultless (not (versionsSound m l x)) (λ b. absurd (T-absurd (versionsSound m l x) (t .versions) b))
       λ _. if-by Faultless (eqb (to x) 0)
-        (λ e. let r = t .ended (eqb→eq (to x) 0 e) in
-          if-by Faultless (ltb seen all) (λ b. absurd (omega (arith, ltb→lt seen all b))) (λ _. refl))
+      (λ e. let r = t .ended (eqb→eq (to x) 0 e) in
+      if-by Faultless (ltb seen all) (λ b. absurd (omega (arith, ltb→lt seen all b))) (λ _. refl))
       λ e. let ne = neqb→ne (to x) 0 e in
-        let o = t .onward ne in
-        let r = o .0 .1 ne in
-        if-by Faultless (ltb (m .counts .nodes) (to x))
-        (λ b. absurd (omega (arith, ltb→lt (m .counts .nodes) (to x) b)))
+      let o = t .onward ne in
+      let r = o .0 .1 ne in
+      if-by Faultless (ltb (m .counts .nodes) (to x))
+      (λ b. absurd (omega (arith, ltb→lt (m .counts .nodes) (to x) b)))
       λ _. if-by Faultless (leb (keyOf (to x)) (keyOf x))
-        (λ b. absurd (omega (arith, leb→le (keyOf (to x)) (keyOf x) b)))
+      (λ b. absurd (omega (arith, leb→le (keyOf (to x)) (keyOf x) b)))
       λ _. if-by Faultless (ltb (topOf (to x)) l) (λ b. absurd (omega (arith, ltb→lt (topOf (to x)) l b)))
       λ _. o .2

@@ -78,9 +78,12 @@ module _ (m : Memory) (g : Ghost) (s lv p x k tp : ℕ) (N : Nodes m g) (a : At 
   high-new = changed-same (g .high) x (suc lv) x refl
 
   up : (l z : ℕ) → In m g l z → In m′ g′ l z
-  up l z h = (h .0, by-eq z x
-      (λ q. omega (arith, h .1, ap (g .high) q, ap (g′ .high) q, made .height-is, high-new))
-      (λ ne. rw (high-old z ne) (h .1)))
+  up l z h = (
+    h .0,
+    by-eq z x
+        (λ q. omega (arith, h .1, ap (g .high) q, ap (g′ .high) q, made .height-is, high-new))
+        (λ ne. rw (high-old z ne) (h .1)),
+  )
 
   down : (l z : ℕ) → In m′ g′ l z → z ≢ x → In m g l z
   down l z h ne = (h .0, rw (high-old z ne) at (h .1))
@@ -99,15 +102,15 @@ module _ (m : Memory) (g : Ghost) (s lv p x k tp : ℕ) (N : Nodes m g) (a : At 
     back = back-word;
     front = front-word;
     others = λ z h ne. let l6 = lv6 in
-      old-word z (4 + lv) (omega arith) (λ q. absurd (ne q)) (λ q. omega (arith, h .1, ap (g .high) q, made .height-is));
-    inj = λ z h q. N .inj z p (h .0) (a .used) q
+        old-word z (4 + lv) (omega arith) (λ q. absurd (ne q)) (λ q. omega (arith, h .1, ap (g .high) q, made .height-is));
+    inj = λ z h q. N .inj z p (h .0) (a .used) q;
   })
 
   level-other : (l : ℕ) → l ≢ lv → Level (In m′ g′ l) (key (m′ .nodes)) (next (m′ .nodes) l)
   level-other l ne = kept (N .levels l)
       (λ z h. by-eq z x
-        (λ q. (h .0, omega (arith, h .1, ap (g .high) q, ap (g′ .high) q, made .height-is, high-new)))
-        (λ nx. down l z h nx))
+      (λ q. (h .0, omega (arith, h .1, ap (g .high) q, ap (g′ .high) q, made .height-is, high-new)))
+      (λ nx. down l z h nx))
       (up l) (λ z h. keys z)
       (λ z h. let l6 : l < 6 = omega (arith, h .1, N .high z (h .0)) in other-word z (4 + l) (omega arith) (omega arith))
 
@@ -119,7 +122,7 @@ module _ (m : Memory) (g : Ghost) (s lv p x k tp : ℕ) (N : Nodes m g) (a : At 
     head-high = high-old 0 (omega (arith, made .pos)) ∙ N .head-high;
     high = λ z h. by-eq z x (λ q. let l6 = lv6 in rw (q, high-new) (omega arith)) (λ ne. rw (high-old z ne) (N .high z h));
     inj = λ z y hz hy q. N .inj z y hz hy (sym (keys z) ∙ q ∙ keys y);
-    levels = λ l. by-eq l lv (λ q. rw q level-same) (level-other l)
+    levels = λ l. by-eq l lv (λ q. rw q level-same) (level-other l);
   }
 
   pub link-book : {b : Map} → Book m b → Book m′ b
@@ -131,7 +134,7 @@ module _ (m : Memory) (g : Ghost) (s lv p x k tp : ℕ) (N : Nodes m g) (a : At 
     keys = λ i h. rw (keys (suc i)) (B .keys i h);
     places = λ i h. rw (other-word (suc i) 1 (omega arith) (omega arith)) (B .places i h);
     chains = λ i h. rw (other-word (suc i) 1 (omega arith) (omega arith)) (B .chains i h);
-    sorted = B .sorted
+    sorted = B .sorted;
   }
 
   pub link-grown : (j : ℕ) → j ≢ s → Grown m m′ g g′ j
@@ -139,11 +142,11 @@ module _ (m : Memory) (g : Ghost) (s lv p x k tp : ℕ) (N : Nodes m g) (a : At 
     more = omega arith;
     keys = λ z h. keys z;
     grow = λ z h. by-eq z x
-      (λ q. omega (arith, ap (g .high) q, ap (g′ .high) q, made .height-is, high-new))
-      (λ nx. omega (arith, high-old z nx));
+        (λ q. omega (arith, ap (g .high) q, ap (g′ .high) q, made .height-is, high-new))
+        (λ nx. omega (arith, high-old z nx));
     owns = λ z h. refl;
     mine = λ z h q. high-old z (λ e. omega (arith, ap (g .own) e, made .mine));
-    tops = λ z h q. tops z
+    tops = λ z h q. tops z;
   }
 
   pub locks-old : (l z : ℕ) → In m g l z → lock (m′ .nodes) l z ≡ lock (m .nodes) l z
@@ -157,19 +160,28 @@ module _ (m : Memory) (g : Ghost) (s lv p x k tp : ℕ) (N : Nodes m g) (a : At 
     grown = link-grown j ne;
     locks = λ l z h q. locks-old l z h ∙ q;
     links = λ l z h q. let l6 : l < 6 = omega (arith, h .1, N .high z (h .0)) in old-word z (4 + l) (omega arith)
-      (λ ez el. clash l z ez (cut el) q)
-      (λ ez el. let w : l ≡ lv = cut el in omega (arith, h .1, ap (g .high) ez, made .height-is))
+        (λ ez el. clash l z ez (cut el) q)
+        (λ ez el. let w : l ≡ lv = cut el in omega (arith, h .1, ap (g .high) ez, made .height-is));
   }
     where
       cut : {l : ℕ} → 4 + l ≡ 4 + lv → l ≡ lv
       cut q = omega arith
+
       clash : (l z : ℕ) → z ≡ p → l ≡ lv → lock (m .nodes) l z ≡ suc j → ⊥
-      clash l z ez el q = omega (arith, held-is,
-        subst (λ w. lock (m .nodes) w p ≡ suc j) el (subst (λ w. lock (m .nodes) l w ≡ suc j) ez q))
+      clash l z ez el q = omega (
+        arith,
+        held-is,
+        subst (λ w. lock (m .nodes) w p ≡ suc j) el (subst (λ w. lock (m .nodes) l w ≡ suc j) ez q),
+      )
 
   pub link-made : Made m′ g′ s x k tp (suc lv)
   link-made = record {
-    used = made .used; pos = made .pos; height-is = high-new; mine = made .mine; key-is = keys x ∙ made .key-is; top-is = tops x ∙ made .top-is
+    used = made .used;
+    pos = made .pos;
+    height-is = high-new;
+    mine = made .mine;
+    key-is = keys x ∙ made .key-is;
+    top-is = tops x ∙ made .top-is;
   }
 
   pub link-risen : (pr pr′ : Process) → pr .cursor .made ≡ x → Climbs pr′ x → Risen m m′ g g′ pr pr′
@@ -184,12 +196,12 @@ module _ (m : Memory) (g : Ghost) (s : ℕ) (pr : Process) (tick : ℕ) (b : Map
 
   -- above level 0 the put has its node
   climbing : (l : ℕ) → 1 ≤ l → Stage m g s (pr .effect) (pr .call .top) (c .made) (pr .call .key) l
-    → (pr .effect .tick ≢ 0) × (pr .effect .answer ≡ New) × (l ≤ pr .call .top) × Made m g s (c .made) (pr .call .key) (pr .call .top) l
+      → (pr .effect .tick ≢ 0) × (pr .effect .answer ≡ New) × (l ≤ pr .call .top) × Made m g s (c .made) (pr .call .key) (pr .call .top) l
   climbing zero pos st = absurd (omega arith)
   climbing (suc l) pos st = st
 
   linked : (pr .effect .tick ≢ 0) → (pr .effect .answer ≡ New) → (c .level ≤ pr .call .top) → (f : Made m g s (c .made) (pr .call .key) (pr .call .top) (c .level))
-    → Good m g s pr tick b (Go (at c Release (c .level) (c .pred))) (addLink c m)
+      → Good m g s pr tick b (Go (at c Release (c .level) (c .pred))) (addLink c m)
   unfolding addLink processAfter
   linked ne ea le f = record {
     node-words = nodes-length m g s (c .level) (c .pred) (c .made) (pr .call .key) (pr .call .top) N (q .spot) cl h f;
@@ -198,15 +210,22 @@ module _ (m : Memory) (g : Ghost) (s : ℕ) (pr : Process) (tick : ℕ) (b : Map
     b′ = b;
     nodes = link-nodes m g s (c .level) (c .pred) (c .made) (pr .call .key) (pr .call .top) N (q .spot) cl h f;
     book = link-book m g s (c .level) (c .pred) (c .made) (pr .call .key) (pr .call .top) N (q .spot) cl h f B;
-    fits = record { kind = Put; phase = Release; kind-is = ek; phase-is = refl; ok = (
-      placed-kept (link-grown m g s (c .level) (c .pred) (c .made) (pr .call .key) (pr .call .top) N (q .spot) cl h f (suc s) (omega arith)) q,
-      ne,
-      locks-old m g s (c .level) (c .pred) (c .made) (pr .call .key) (pr .call .top) N (q .spot) cl h f (c .level) (c .pred) (q .spot .used, q .spot .up) ∙ h,
-      rw ea (le, link-made m g s (c .level) (c .pred) (c .made) (pr .call .key) (pr .call .top) N (q .spot) cl h f)) };
+    fits = record {
+      kind = Put;
+      phase = Release;
+      kind-is = ek;
+      phase-is = refl;
+      ok = (
+        placed-kept (link-grown m g s (c .level) (c .pred) (c .made) (pr .call .key) (pr .call .top) N (q .spot) cl h f (suc s) (omega arith)) q,
+        ne,
+        locks-old m g s (c .level) (c .pred) (c .made) (pr .call .key) (pr .call .top) N (q .spot) cl h f (c .level) (c .pred) (q .spot .used, q .spot .up) ∙ h,
+        rw ea (le, link-made m g s (c .level) (c .pred) (c .made) (pr .call .key) (pr .call .top) N (q .spot) cl h f),
+      );
+    };
     frame = link-frame m g s (c .level) (c .pred) (c .made) (pr .call .key) (pr .call .top) N (q .spot) cl h f;
     does = (refl, refl);
     risen = link-risen m g s (c .level) (c .pred) (c .made) (pr .call .key) (pr .call .top) N (q .spot) cl h f pr
-      (processAfter tick pr (Go (at c Release (c .level) (c .pred)))) refl (record { kind = ek; answer = ea; made = refl })
+        (processAfter tick pr (Go (at c Release (c .level) (c .pred)))) refl (record { kind = ek; answer = ea; made = refl });
   }
 
   pub link-good : 1 ≤ c .level → StageOf m g s pr → Result m g s pr tick b (linkOf c m)
@@ -214,5 +233,5 @@ module _ (m : Memory) (g : Ghost) (s : ℕ) (pr : Process) (tick : ℕ) (b : Map
   link-good pos st =
       let u = climbing (c .level) pos st in
       if-by (Result m g s pr tick b) (usedNode m (c .made))
-        (λ t. linked (u .0) (u .1) (u .2) (u .3))
-        (λ t. absurd (T-absurd (usedNode m (c .made)) (within-T (u .3 .pos) (u .3 .used)) t))
+      (λ t. linked (u .0) (u .1) (u .2) (u .3))
+      (λ t. absurd (T-absurd (usedNode m (c .made)) (within-T (u .3 .pos) (u .3 .used)) t))

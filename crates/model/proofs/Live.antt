@@ -11,7 +11,7 @@ use lib.ListN.{length, getD, set, length-set, length-append}
 use lib.Seq.{getD-set-same, getD-set-other}
 use Rattle.model.specs.Types.{Kind, Idle, Put, Get, Answer, Process, State, Status}
 use Rattle.model.specs.Choice.{if_then_else_}
-use Rattle.model.specs.Layout.{Memory, nodeWords, versionWords, mostProcesses, mostEvents, capacity, top}
+use Rattle.model.specs.Layout.{Memory, nodeWords, versionWords, capacity, top}
 use Rattle.model.specs.Map.{Map, Reply}
 use Rattle.model.specs.Numbers.{placeOf}
 use Rattle.model.specs.State.{noProcess, processAt, memoryOf, withEvent, lawfulNodes, lawfulVersions, lawfulState, lawfulStore, isIdle}
@@ -52,7 +52,7 @@ pub record Core (w : Store) (g : Ghost) (b : Map) : Type 0 where
 abbrev pub invokedOf : Process → Invoked
 invokedOf pr = record {
   operation = record { kind = pr .call .kind; key = pr .call .key; value = pr .call .value; timestamp = pr .call .timestamp };
-  start = pr .call .start
+  start = pr .call .start;
 }
 
 pub record Track (K W : ℕ) (log : List Action) (eff : List Took) (i : ℕ) (c : Invoked) (pr : Process) : Type 0 where
@@ -119,7 +119,8 @@ core-state {w} c =
     let s = w .state in
     let K : ℕ = capacity nodeWords (s .lengths .nodes) in
     let W : ℕ = capacity versionWords (s .lengths .versions) in
-    rw (c .opened,
+    rw (
+      c .opened,
       is-true (leb 1 (s .processes)) (le→leb 1 (s .processes) (c .processes .0)),
       is-true (leb (s .processes) 8) (le→leb (s .processes) 8 (c .processes .1)),
       is-true (leb 1 (s .limit)) (le→leb 1 (s .limit) (c .limit .0)),
@@ -128,13 +129,16 @@ core-state {w} c =
       is-true (lawfulNodes (s .lengths .nodes)) (c .node-length),
       is-true (lawfulVersions (s .lengths .versions)) (c .version-length),
       is-true (leb (s .counts .nodes) K) (le→leb (s .counts .nodes) K (omega (arith, c .nodes .room, ap (capacity nodeWords) (c .nodes-lent)))),
-      is-true (leb (s .counts .versions) W) (le→leb (s .counts .versions) W (omega (arith, c .book .room, ap (capacity versionWords) (c .versions-lent))))) tt
+      is-true (leb (s .counts .versions) W) (le→leb (s .counts .versions) W (omega (arith, c .book .room, ap (capacity versionWords) (c .versions-lent)))),
+    ) tt
 
 pub core-lawful : {w : Store} {g : Ghost} {b : Map} → Core w g b → lawfulStore (w .state) (w .nodes) (w .versions) ≡ true
 unfolding lawfulStore
-core-lawful {w} c = rw (is-true (lawfulState (w .state)) (core-state c),
-    is-true (eqb (length (w .nodes)) (w .state .lengths .nodes)) (eq→eqb (length (w .nodes)) (w .state .lengths .nodes) (c .nodes-lent)),
-    is-true (eqb (length (w .versions)) (w .state .lengths .versions)) (eq→eqb (length (w .versions)) (w .state .lengths .versions) (c .versions-lent)))
+core-lawful {w} c = rw (
+  is-true (lawfulState (w .state)) (core-state c),
+  is-true (eqb (length (w .nodes)) (w .state .lengths .nodes)) (eq→eqb (length (w .nodes)) (w .state .lengths .nodes) (c .nodes-lent)),
+  is-true (eqb (length (w .versions)) (w .state .lengths .versions)) (eq→eqb (length (w .versions)) (w .state .lengths .versions) (c .versions-lent)),
+)
 
 pub status-is : {w : Store} {g : Ghost} {b : Map} → Core w g b → (i : ℕ) → i < w .state .processes
     → statusOf (w .state) i ≡ standing (slot w i .call .kind) (slot w i)
@@ -195,11 +199,31 @@ busy-set l i (suc n) pr h h′ = by-eq i n
 pub refused-live : {K W : ℕ} {w : Store} {h : History} (right : Bool) → T right → Live K W w h → Live K W w (sawRefusal h right)
 refused-live {K} {W} {w} {h} right t l =
     let k = l .hist in
-    record { g = l .g; b = l .b; eff = l .eff; core = l .core; hist = record {
-      processes-is = k .processes-is; limit-is = k .limit-is; ticks = k .ticks; one-each = k .one-each; K-is = k .K-is; W-is = k .W-is;
-      book-is = k .book-is; done = k .done; track = k .track; nothing-else = k .nothing-else; looks = k .looks; tally = k .tally;
-      counted = k .counted; few = k .few; faults = omega (arith, k .faults, if-yes {A = ℕ} right 0 1 t); past = k .past; pairs = k .pairs
-    } }
+    record {
+      g = l .g;
+      b = l .b;
+      eff = l .eff;
+      core = l .core;
+      hist = record {
+        processes-is = k .processes-is;
+        limit-is = k .limit-is;
+        ticks = k .ticks;
+        one-each = k .one-each;
+        K-is = k .K-is;
+        W-is = k .W-is;
+        book-is = k .book-is;
+        done = k .done;
+        track = k .track;
+        nothing-else = k .nothing-else;
+        looks = k .looks;
+        tally = k .tally;
+        counted = k .counted;
+        few = k .few;
+        faults = omega (arith, k .faults, if-yes {A = ℕ} right 0 1 t);
+        past = k .past;
+        pairs = k .pairs;
+      };
+    }
 
 -- an event of process i: a call x that took effect or none, and what it leaves of store and history
 module _ (K W : ℕ) (w : Store) (h : History) (b : Map) (eff : List Took) (k : Hist K W w h b eff) (eight : length (w .state .process) ≡ 8)
@@ -210,8 +234,14 @@ module _ (K W : ℕ) (w : Store) (h : History) (b : Map) (eff : List Took) (k : 
 
   abbrev pub h′ : History
   h′ = record {
-    processes = h .processes; limit = h .limit; log = h .log ++ (a ∷ []); invoked = invoked; starts = starts;
-    completed = completed; queries = h .queries; faults = faults
+    processes = h .processes;
+    limit = h .limit;
+    log = h .log ++ (a ∷ []);
+    invoked = invoked;
+    starts = starts;
+    completed = completed;
+    queries = h .queries;
+    faults = faults;
   }
 
   even : length eff ≡ length (h .log)
@@ -225,8 +255,10 @@ module _ (K W : ℕ) (w : Store) (h : History) (b : Map) (eff : List Took) (k : 
 
   track-grow : {j : ℕ} {c : Invoked} {q : Process} → Track K W (h .log) eff j c q → Track K W (h .log ++ (a ∷ [])) (eff ++ (x ∷ [])) j c q
   track-grow t = record {
-    same = t .same; resting = t .resting; begun = omega (arith, t .begun, length-append (h .log) (a ∷ []));
-    entered = λ ne. entered-grow K W (h .log) eff a x even (t .entered ne)
+    same = t .same;
+    resting = t .resting;
+    begun = omega (arith, t .begun, length-append (h .log) (a ∷ []));
+    entered = λ ne. entered-grow K W (h .log) eff a x even (t .entered ne);
   }
 
   pub done-grow : All (Settles K W (h .log ++ (a ∷ [])) (eff ++ (x ∷ []))) (h .completed)
@@ -261,23 +293,23 @@ module _ (K W : ℕ) (w : Store) (h : History) (b : Map) (eff : List Took) (k : 
     book-is = e .map-is ∙ ap (λ y. fed K W y x) (k .book-is) ∙ sym (played-snoc K W [] eff x);
     done = e .done;
     track = λ j. by-eq j i
-      (λ q. rw (q, slot-same) (e .track))
-      (λ ne. rw (e .others j ne, slot-other j ne) (track-grow (k .track j)));
+        (λ q. rw (q, slot-same) (e .track))
+        (λ ne. rw (e .others j ne, slot-other j ne) (track-grow (k .track j)));
     nothing-else = λ n j c q. effect-cases K W (h .log) eff a x even n j c q
-      (λ o. left n j c (k .nothing-else n j c o))
-      (λ q r. e .now n j c q r);
+        (λ o. left n j c (k .nothing-else n j c o))
+        (λ q r. e .now n j c q r);
     looks = all-map (looked-grow K W (h .log) eff a x even) (h .queries) (k .looks);
     tally = e .tally;
     counted = e .counted;
     few = omega (arith, e .few, length-append (h .log) (a ∷ []));
     faults = e .no-faults;
     past = e .past;
-    pairs = e .pairs
+    pairs = e .pairs;
   }
     where
       left : (n j : ℕ) (c : Invoked) → Left h w n j c → Left h′ w′ n j c
       left n j c (inl d) = inl (e .kept n j c d)
       left n j c (inr r) = by-eq j i
           (λ q. subst (λ z. Left h′ w′ n z c) (sym q)
-            (e .old n c (subst (λ z. h .invoked z ≡ c) q (r .0)) (subst (λ z. slot w z .effect .tick ≡ suc n) q (r .1))))
+          (e .old n c (subst (λ z. h .invoked z ≡ c) q (r .0)) (subst (λ z. slot w z .effect .tick ≡ suc n) q (r .1))))
           (λ ne. inr (e .others j ne ∙ r .0, ap (λ (z : Process). z .effect .tick) (slot-other j ne) ∙ r .1))

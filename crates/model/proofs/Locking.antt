@@ -13,7 +13,7 @@ use Rattle.model.specs.Types.{Kind, Put, Phase, Seek, Lock, Check, Updat
 use Rattle.model.specs.Choice.{if_then_else_}
 use Rattle.model.specs.Layout.{Memory, topLevel, key, top, next, lock}
 use Rattle.model.specs.Map.{Map}
-use Rattle.model.specs.Numbers.{noVersion, versionWith}
+use Rattle.model.specs.Numbers.{placeOf, noVersion, versionWith}
 use Rattle.model.specs.Phases.{Moved, at, ownVersion, ended, ahead, withHolder, lockOf, checked, checkBy, checkOf, isNew, rise, released, freed, releaseOf}
 use Rattle.model.specs.Calls.{processAfter}
 use Rattle.model.proofs.Tests.{if-eq, if-le, if-lt}
@@ -38,23 +38,29 @@ module _ (m : Memory) (g : Ghost) (i : ℕ) (pr : Process) (tick : ℕ) (b : Map
   unfolding lockOf processAfter
   lock-good ek ep q s = if-eq R (lock (m .nodes) (c .level) (c .pred)) 0
       (λ e.
-        let l6 = level6 m g b N B (q .spot) in
-        let a = lock-alike m g N c (i + 1) l6 (q .spot .used) in
-        let f : (j : ℕ) → Frame m (withHolder m c (i + 1)) g g j = λ j. lock-frame m g N c (i + 1) l6 (q .spot .used) j (omega arith) in
-        record {
-          node-words = a .length-is; version-words = refl; g′ = g; b′ = b;
-          nodes = nodes-kept a N;
-          book = lock-book m g N c (i + 1) l6 (q .spot .used) B;
-          fits = record {
-            kind = Put; phase = Check; kind-is = ek; phase-is = refl;
-            ok = (placed-kept (f i .grown) q, stage-of-kept (f i .grown) pr s, lock-set m g N c (i + 1) l6 (q .spot .used) ∙ add-one i)
-          };
-          frame = λ j ne. f j;
-          does = (refl, refl);
-          risen = risen-same a (λ x k. record { kind = k .kind; answer = k .answer; made = k .made })
-        })
+      let l6 = level6 m g b N B (q .spot) in
+      let a = lock-alike m g N c (i + 1) l6 (q .spot .used) in
+      let f : (j : ℕ) → Frame m (withHolder m c (i + 1)) g g j = λ j. lock-frame m g N c (i + 1) l6 (q .spot .used) j (omega arith) in
+      record {
+        node-words = a .length-is;
+        version-words = refl;
+        g′ = g;
+        b′ = b;
+        nodes = nodes-kept a N;
+        book = lock-book m g N c (i + 1) l6 (q .spot .used) B;
+        fits = record {
+          kind = Put;
+          phase = Check;
+          kind-is = ek;
+          phase-is = refl;
+          ok = (placed-kept (f i .grown) q, stage-of-kept (f i .grown) pr s, lock-set m g N c (i + 1) l6 (q .spot .used) ∙ add-one i);
+        };
+        frame = λ j ne. f j;
+        does = (refl, refl);
+        risen = risen-same a (λ x k. record { kind = k .kind; answer = k .answer; made = k .made });
+      })
       (λ ne. still m g i pr tick b N B Wait (record { kind = Put; phase = Lock; kind-is = ek; phase-is = ep; ok = (q, s) }) refl
-        (risen-same (Rattle.model.proofs.Alike.alike-refl m g) (λ x k. k)))
+      (risen-same (Rattle.model.proofs.Alike.alike-refl m g) (λ x k. k)))
 
   -- ---- the lock given back
 
@@ -65,19 +71,22 @@ module _ (m : Memory) (g : Ghost) (i : ℕ) (pr : Process) (tick : ℕ) (b : Map
   free-grown q = grown-alike i (lock-alike m g N c 0 (level6 m g b N B (q .spot)) (q .spot .used))
 
   free-good : (v : Move) → PlacedOf m g pr → HoldsOf m i pr → Fits free g i (processAfter tick pr v) → Does m pr tick b b v
-    → ((x : ℕ) → x ≤ m .counts .nodes → Climbs pr x → ¬ (Climbs (processAfter tick pr v) x) → g .high x ≡ suc (top (m .nodes) x))
-    → Good m g i pr tick b v free
+      → ((x : ℕ) → x ≤ m .counts .nodes → Climbs pr x → ¬ (Climbs (processAfter tick pr v) x) → g .high x ≡ suc (top (m .nodes) x))
+      → Good m g i pr tick b v free
   free-good v q h f d give =
       let l6 = level6 m g b N B (q .spot) in
       let a = lock-alike m g N c 0 l6 (q .spot .used) in
       record {
-        node-words = a .length-is; version-words = refl; g′ = g; b′ = b;
+        node-words = a .length-is;
+        version-words = refl;
+        g′ = g;
+        b′ = b;
         nodes = nodes-kept a N;
         book = lock-book m g N c 0 l6 (q .spot .used) B;
         fits = f;
         frame = λ j ne. lock-frame m g N c 0 l6 (q .spot .used) j (λ e. clash j ne (sym h ∙ e));
         does = d;
-        risen = risen-alike a give
+        risen = risen-alike a give;
       }
     where
       clash : (j : ℕ) → j ≢ i → suc i ≡ suc j → ⊥
@@ -85,13 +94,18 @@ module _ (m : Memory) (g : Ghost) (i : ℕ) (pr : Process) (tick : ℕ) (b : Map
 
   -- the put goes on to seek, from p at level l, with what it has in hand
   seek-again : (l p : ℕ) → call .kind ≡ Put → PlacedOf m g pr → HoldsOf m i pr → At m g l p (call .key)
-    → Stage m g i (pr .effect) (call .top) (c .made) (call .key) l → Good m g i pr tick b (Go (at c Seek l p)) free
+      → Stage m g i (pr .effect) (call .top) (c .made) (call .key) l → Good m g i pr tick b (Go (at c Seek l p)) free
   unfolding processAfter
   seek-again l p ek q h a s = free-good (Go (at c Seek l p)) q h
       (record {
-        kind = Put; phase = Seek; kind-is = ek; phase-is = refl;
-        ok = (placed-kept (free-grown q) (record { top5 = q .top5; six = q .six; spot = a; memo = q .memo }),
-          stage-kept (free-grown q) (pr .effect) (call .top) (c .made) (call .key) l s)
+        kind = Put;
+        phase = Seek;
+        kind-is = ek;
+        phase-is = refl;
+        ok = (
+          placed-kept (free-grown q) (record { top5 = q .top5; six = q .six; spot = a; memo = q .memo }),
+          stage-kept (free-grown q) (pr .effect) (call .top) (c .made) (call .key) l s,
+        );
       })
       (refl, refl)
       (λ x u k no-more. absurd (no-more (record { kind = k .kind; answer = k .answer; made = k .made })))
@@ -100,7 +114,7 @@ module _ (m : Memory) (g : Ghost) (i : ℕ) (pr : Process) (tick : ℕ) (b : Map
 
   -- above level 0 no other node has the key: the put has made the one that has it
   no-twin : (l : ℕ) → c .level ≡ suc l → PlacedOf m g pr → Stage m g i (pr .effect) (call .top) (c .made) (call .key) (suc l)
-    → (y : ℕ) → Related m (c .level) (c .pred) (call .key) (Equal y) → ⊥
+      → (y : ℕ) → Related m (c .level) (c .pred) (call .key) (Equal y) → ⊥
   no-twin l el q s y r =
       let z = next (m .nodes) (c .level) (c .pred) in
       let n = link-in m g b N B (q .spot) (r .1 .some) .0 in
@@ -109,7 +123,7 @@ module _ (m : Memory) (g : Ghost) (i : ℕ) (pr : Process) (tick : ℕ) (b : Map
       omega (arith, n .1, ap (g .high) e, f .height-is)
 
   to-phase : (ph : Phase) → Fits m g i (record { call = call; cursor = at c ph (c .level) (c .pred); effect = pr .effect; preds = pr .preds })
-    → Good m g i pr tick b (Go (at c ph (c .level) (c .pred))) m
+      → Good m g i pr tick b (Go (at c ph (c .level) (c .pred))) m
   unfolding processAfter
   to-phase ph f = goes m g i pr tick b N B (at c ph (c .level) (c .pred)) refl f
 
@@ -122,7 +136,7 @@ module _ (m : Memory) (g : Ghost) (i : ℕ) (pr : Process) (tick : ℕ) (b : Map
   stage-up (suc j) el ne s = (j, refl, subst (λ l. Stage m g i (pr .effect) (call .top) (c .made) (call .key) l) el s)
 
   check-by-good : (a : Ahead) → Related m (c .level) (c .pred) (call .key) a → call .kind ≡ Put → PlacedOf m g pr → StageOf m g i pr → HoldsOf m i pr
-    → R (checkBy c m a)
+      → R (checkBy c m a)
   unfolding checkBy
   check-by-good Unused r ek q s h = absurd (not-unused m g b N B (q .spot) r)
   check-by-good (Less y) r ek q s h = seek-again (c .level) y ek q h (along m g b N B (q .spot) r) s
@@ -141,37 +155,37 @@ module _ (m : Memory) (g : Ghost) (i : ℕ) (pr : Process) (tick : ℕ) (b : Map
 
   -- the call ends with the answer it had
   end-good : (a : Answer) → a ≡ pr .effect .answer → versionWith a (ownVersion call) noVersion ≡ ownVersion call → call .kind ≡ Put → pr .effect .tick ≢ 0
-    → PlacedOf m g pr → HoldsOf m i pr → ((x : ℕ) → Climbs pr x → g .high x ≡ suc (top (m .nodes) x))
-    → Good m g i pr tick b (ended call a noVersion (pr .effect .tick)) free
+      → PlacedOf m g pr → HoldsOf m i pr → ((x : ℕ) → Climbs pr x → g .high x ≡ suc (top (m .nodes) x))
+      → Good m g i pr tick b (ended call a noVersion (pr .effect .tick)) free
   unfolding processAfter
   end-good a ea ev ek ne q h give = free-good (ended call a noVersion (pr .effect .tick)) q h (idle-fits free g i)
       (refl, inr (ek, ne, refl, ea, ev)) (λ x u k no-more. give x k)
 
   rise-good : (a : Answer) → a ≡ New → pr .effect .answer ≡ a → call .kind ≡ Put → pr .effect .tick ≢ 0 → PlacedOf m g pr → HoldsOf m i pr
-    → (c .level ≤ call .top) × Made m g i (c .made) (call .key) (call .top) (suc (c .level))
-    → R (freed c m (rise call c (pr .preds) m (ended call New noVersion (pr .effect .tick))))
+      → (c .level ≤ call .top) × Made m g i (c .made) (call .key) (call .top) (suc (c .level))
+      → R (freed c m (rise call c (pr .preds) m (ended call New noVersion (pr .effect .tick))))
   unfolding rise freed
   rise-good a en ea ek ne q h s =
       let up = getD (pr .preds) (c .level + 1) 0 in
       let P : Move → Type 0 = λ v. R (freed c m v) in
       if-lt P topLevel (call .top) (λ t. absurd (omega (arith, q .top5))) λ t.
       if-le P (call .top) (c .level)
-        (λ ge. end-good New (sym (ea ∙ en)) refl ek ne q h (λ x k.
-          subst (λ y. g .high y ≡ suc (top (m .nodes) y)) (k .made) (let f = s .1 in omega (arith, f .height-is, f .top-is, s .0)))) λ lt.
+      (λ ge. end-good New (sym (ea ∙ en)) refl ek ne q h (λ x k.
+      subst (λ y. g .high y ≡ suc (top (m .nodes) y)) (k .made) (let f = s .1 in omega (arith, f .height-is, f .top-is, s .0)))) λ lt.
       let a : At m g (c .level + 1) up (call .key) = q .memo (c .level + 1) (omega (arith, q .top5)) in
       if-lt P (m .counts .nodes) up
-        (λ u. absurd (omega (arith, a .used)))
-        (λ u. seek-again (c .level + 1) up ek q h a (rw (add-one (c .level)) (ne, ea ∙ en, lt, s .1)))
+      (λ u. absurd (omega (arith, a .used)))
+      (λ u. seek-again (c .level + 1) up ek q h a (rw (add-one (c .level)) (ne, ea ∙ en, lt, s .1)))
 
   other-good : (a : Answer) → a ≢ New → pr .effect .answer ≡ a → versionWith a (ownVersion call) noVersion ≡ ownVersion call → call .kind ≡ Put
-    → pr .effect .tick ≢ 0 → PlacedOf m g pr → HoldsOf m i pr → R (freed c m (ended call a noVersion (pr .effect .tick)))
+      → pr .effect .tick ≢ 0 → PlacedOf m g pr → HoldsOf m i pr → R (freed c m (ended call a noVersion (pr .effect .tick)))
   unfolding freed
   other-good a nn ea ev ek ne q h = end-good a (sym ea) ev ek ne q h (λ x k. absurd (nn (sym ea ∙ k .answer)))
 
   release-by-good : (a : Answer) → pr .effect .answer ≡ a → call .kind ≡ Put → pr .effect .tick ≢ 0 → PlacedOf m g pr → HoldsOf m i pr
-    → Settled m g i (call .top) (c .made) (call .key) (c .level) a
-    → R (freed c m (released call c (record { answer = a; tick = pr .effect .tick }) (pr .preds) m))
-  unfolding released isNew
+      → Settled m g i (call .top) (c .made) (call .key) (c .level) a
+      → R (freed c m (released call c (record { answer = a; tick = pr .effect .tick }) (pr .preds) m))
+  unfolding released isNew placeOf
   release-by-good TooOld ea ek ne q h s = other-good TooOld (λ e. let z : _≡_ {A = ℕ} 0 1 = cc in omega arith) ea refl ek ne q h
   release-by-good VersionsFull ea ek ne q h s = other-good VersionsFull (λ e. let z : _≡_ {A = ℕ} 0 1 = cc in omega arith) ea refl ek ne q h
   release-by-good Added ea ek ne q h s = other-good Added (λ e. let z : _≡_ {A = ℕ} 0 1 = cc in omega arith) ea refl ek ne q h
@@ -181,6 +195,6 @@ module _ (m : Memory) (g : Ghost) (i : ℕ) (pr : Process) (tick : ℕ) (b : Map
   release-by-good None ea ek ne q h s = absurd s
 
   pub release-good : call .kind ≡ Put → pr .effect .tick ≢ 0 → PlacedOf m g pr → HoldsOf m i pr → SettledOf m g i pr
-    → R (releaseOf call c (pr .effect) (pr .preds) m)
+      → R (releaseOf call c (pr .effect) (pr .preds) m)
   unfolding releaseOf
   release-good ek ne q h s = release-by-good (pr .effect .answer) refl ek ne q h s

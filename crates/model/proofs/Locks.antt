@@ -52,8 +52,8 @@ module _ (m : Memory) (i : ℕ) (tick : ℕ) (pr : Process) (size : length (m .n
 
   -- the same locks, and the process holds what it held
   steady : (v : Move) (m′ : Memory)
-    → ((l x : ℕ) → l < 6 → x ≤ m′ .counts .nodes → (j : ℕ) → lock (m′ .nodes) l x ≡ suc j → (x ≤ m .counts .nodes) × (lock (m .nodes) l x ≡ suc j))
-    → ((l x : ℕ) → HoldsAt pr l x → HoldsAt (processAfter tick pr v) l x) → L (moved m′ v)
+      → ((l x : ℕ) → l < 6 → x ≤ m′ .counts .nodes → (j : ℕ) → lock (m′ .nodes) l x ≡ suc j → (x ≤ m .counts .nodes) × (lock (m .nodes) l x ≡ suc j))
+      → ((l x : ℕ) → HoldsAt pr l x → HoldsAt (processAfter tick pr v) l x) → L (moved m′ v)
   steady v m′ back keep l x j h6 hx e =
       let q = back l x h6 hx j e in
       ((λ ne. q), λ es. keep l x (nm l x h6 (q .0) (q .1 ∙ ap suc es)))
@@ -65,24 +65,25 @@ module _ (m : Memory) (i : ℕ) (tick : ℕ) (pr : Process) (size : length (m .n
   -- ---- one lock word
 
   lock-word : (v l x : ℕ) → l < 6 → x ≤ m .counts .nodes → {P : Type 0}
-    → (l ≡ c .level → x ≡ c .pred → lock (withHolder m c v .nodes) l x ≡ v → P)
-    → (¬ ((l ≡ c .level) × (x ≡ c .pred)) → lock (withHolder m c v .nodes) l x ≡ lock (m .nodes) l x → P) → P
+      → (l ≡ c .level → x ≡ c .pred → lock (withHolder m c v .nodes) l x ≡ v → P)
+      → (¬ ((l ≡ c .level) × (x ≡ c .pred)) → lock (withHolder m c v .nodes) l x ≡ lock (m .nodes) l x → P) → P
   lock-word v l x h6 hx {P} here there = by-eq l (c .level)
       (λ el. by-eq x (c .pred)
-        (λ ex. here el ex (rw (el, ex) (word-same (m .nodes) (c .pred) (10 + c .level) v (omega arith) (omega arith))))
-        (λ nx. there (λ q. nx (q .1)) (word-node (m .nodes) (c .pred) x (10 + c .level) (10 + l) v (omega arith) (omega arith) nx)))
+      (λ ex. here el ex (rw (el, ex) (word-same (m .nodes) (c .pred) (10 + c .level) v (omega arith) (omega arith))))
+      (λ nx. there (λ q. nx (q .1)) (word-node (m .nodes) (c .pred) x (10 + c .level) (10 + l) v (omega arith) (omega arith) nx)))
       (λ nl. there (λ q. nl (q .0)) (word-field (m .nodes) (c .pred) x (10 + c .level) (10 + l) v (omega arith) (omega arith) (omega arith)))
 
   lock-locked : c .phase ≡ Lock → L (lockOf c (i + 1) m)
   unfolding lockOf processAfter
   lock-locked ep = if-eq L (lock (m .nodes) (c .level) (c .pred)) 0
       (λ e0 l x j h6 hx e. lock-word (i + 1) l x h6 hx
-        (λ el ex q. ((λ ne. absurd (ne (cut q e))), λ es. record { kind = nn; phase = tt; level = sym el; node = sym ex }))
-        (λ no q. ((λ ne. (hx, sym q ∙ e)), λ es. absurd (none (nm l x h6 hx (sym q ∙ e ∙ ap suc es) .phase)))))
+      (λ el ex q. ((λ ne. absurd (ne (cut q e))), λ es. record { kind = nn; phase = tt; level = sym el; node = sym ex }))
+      (λ no q. ((λ ne. (hx, sym q ∙ e)), λ es. absurd (none (nm l x h6 hx (sym q ∙ e ∙ ap suc es) .phase)))))
       (λ ne. steady Wait m (λ l x h6 hx j e. (hx, e)) (λ l x h. h))
     where
       cut : {a d : ℕ} → a ≡ i + 1 → a ≡ suc d → d ≡ i
       cut p q = omega arith
+
       none : Holding (c .phase) → ⊥
       none h = subst (λ ph. Holding ph) ep h
 
@@ -119,8 +120,8 @@ module _ (m : Memory) (i : ℕ) (tick : ℕ) (pr : Process) (size : length (m .n
 
   -- a put takes effect: it holds what it held
   commits : (made : ℕ) (a : Answer) (m′ : Memory)
-    → ((l x : ℕ) → l < 6 → x ≤ m′ .counts .nodes → (j : ℕ) → lock (m′ .nodes) l x ≡ suc j → (x ≤ m .counts .nodes) × (lock (m .nodes) l x ≡ suc j))
-    → L (moved m′ (committed c made a))
+      → ((l x : ℕ) → l < 6 → x ≤ m′ .counts .nodes → (j : ℕ) → lock (m′ .nodes) l x ≡ suc j → (x ≤ m .counts .nodes) × (lock (m .nodes) l x ≡ suc j))
+      → L (moved m′ (committed c made a))
   unfolding processAfter
   commits made a m′ back = steady (committed c made a) m′ back (λ l x h. record { kind = h .kind; phase = tt; level = h .level; node = h .node })
 
@@ -135,7 +136,7 @@ module _ (m : Memory) (i : ℕ) (tick : ℕ) (pr : Process) (size : length (m .n
       if-lt L (pr .call .timestamp) (timestamp (m .versions) i) (λ t. unwritten (c .made) Answer.TooOld) λ t.
       if-le L (maxVersions m) (m .counts .versions) (λ t. unwritten (c .made) Answer.VersionsFull) λ t.
       commits (c .made) Answer.Added (addVersion (pr .call) x m) (λ l y h6 hy j e.
-        (hy, sym (word-field (m .nodes) x y 1 (10 + l) (m .counts .versions + 1) (omega arith) (omega arith) (omega arith)) ∙ e))
+      (hy, sym (word-field (m .nodes) x y 1 (10 + l) (m .counts .versions + 1) (omega arith) (omega arith) (omega arith)) ∙ e))
 
   make-locked : Holding (c .phase) → L (makeOf (pr .call) c m)
   unfolding makeOf addNode
@@ -146,18 +147,22 @@ module _ (m : Memory) (i : ℕ) (tick : ℕ) (pr : Process) (size : length (m .n
     where
       x : ℕ
       x = m .counts .nodes + 1
+
       t₁ : List ℕ
       t₁ = Rattle.model.specs.Layout.withNode (m .nodes) x (pr .call .key) (m .counts .versions + 1) (pr .call .top) (next (m .nodes) 0 (c .pred))
+
       back : m .counts .nodes < maxNodes m → (l y : ℕ) → l < 6 → y ≤ x → (j : ℕ) → word (withWord t₁ (c .pred) 4 x) y (10 + l) ≡ suc j
-        → (y ≤ m .counts .nodes) × (lock (m .nodes) l y ≡ suc j)
+          → (y ≤ m .counts .nodes) × (lock (m .nodes) l y ≡ suc j)
       back rm l y h6 hy j e =
           let q = word-field t₁ (c .pred) y 4 (10 + l) x (omega arith) (omega arith) (omega arith) in
           by-eq y x
-            (λ ey. absurd (free (subst (λ z. word t₁ z (10 + l) ≡ 0) (sym ey)
-              (node-in (m .nodes) x (pr .call .key) (m .counts .versions + 1) (pr .call .top) (next (m .nodes) 0 (c .pred)) (10 + l) (omega arith) (omega arith)
-                ∙ node-locks (pr .call .key) (m .counts .versions + 1) (pr .call .top) (next (m .nodes) 0 (c .pred)) l h6)) (sym q ∙ e)))
-            (λ ny. (omega arith,
-              sym (node-out (m .nodes) x (pr .call .key) (m .counts .versions + 1) (pr .call .top) (next (m .nodes) 0 (c .pred)) y (10 + l) (omega arith) ny) ∙ sym q ∙ e))
+          (λ ey. absurd (free (subst (λ z. word t₁ z (10 + l) ≡ 0) (sym ey)
+          (node-in (m .nodes) x (pr .call .key) (m .counts .versions + 1) (pr .call .top) (next (m .nodes) 0 (c .pred)) (10 + l) (omega arith) (omega arith)
+          ∙ node-locks (pr .call .key) (m .counts .versions + 1) (pr .call .top) (next (m .nodes) 0 (c .pred)) l h6)) (sym q ∙ e)))
+          (λ ny. (
+            omega arith,
+            sym (node-out (m .nodes) x (pr .call .key) (m .counts .versions + 1) (pr .call .top) (next (m .nodes) 0 (c .pred)) y (10 + l) (omega arith) ny) ∙ sym q ∙ e,
+          ))
         where
           free : {a d : ℕ} → a ≡ 0 → a ≡ suc d → ⊥
           free p r = omega arith
@@ -166,11 +171,13 @@ module _ (m : Memory) (i : ℕ) (tick : ℕ) (pr : Process) (size : length (m .n
   unfolding linkOf addLink processAfter
   link-locked h = if-by L (usedNode m (c .made))
       (λ t. steady (Go (at c Release (c .level) (c .pred))) (addLink c m)
-        (λ l x h6 hx j e. (hx,
-          sym (word-field (m .nodes) (c .made) x (4 + c .level) (10 + l) (next (m .nodes) (c .level) (c .pred)) (omega arith) (omega arith) (omega arith))
-          ∙ sym (word-field (withWord (m .nodes) (c .made) (4 + c .level) (next (m .nodes) (c .level) (c .pred))) (c .pred) x (4 + c .level) (10 + l) (c .made)
-              (omega arith) (omega arith) (omega arith)) ∙ e))
-        (λ l x k. record { kind = k .kind; phase = tt; level = k .level; node = k .node }))
+      (λ l x h6 hx j e. (
+        hx,
+        sym (word-field (m .nodes) (c .made) x (4 + c .level) (10 + l) (next (m .nodes) (c .level) (c .pred)) (omega arith) (omega arith) (omega arith))
+            ∙ sym (word-field (withWord (m .nodes) (c .made) (4 + c .level) (next (m .nodes) (c .level) (c .pred))) (c .pred) x (4 + c .level) (10 + l) (c .made)
+            (omega arith) (omega arith) (omega arith)) ∙ e,
+      ))
+      (λ l x k. record { kind = k .kind; phase = tt; level = k .level; node = k .node }))
       (λ t. refused h)
 
   release-locked : Holding (c .phase) → (v : Move) → L (freed c m v)

@@ -11,7 +11,7 @@ use lib.ListN.{length, getD, take}
 use lib.Seq.{take-all}
 use Rattle.model.specs.Types.{Version, BadKey, NoKey, Damaged, Permit, Granted, Denied, Looking}
 use Rattle.model.specs.Choice.{if_then_else_}
-use Rattle.model.specs.Layout.{Memory, greatestKey, key, newest, prev}
+use Rattle.model.specs.Layout.{Memory, limits, key, newest, prev}
 use Rattle.model.specs.Map.{Map, versionsOf, backIn, lookIn}
 use Rattle.model.specs.Map as Seq
 use Rattle.model.specs.State.{lawfulKey}
@@ -34,8 +34,8 @@ find-by t k P zero x none some = none (λ z a c. absurd (omega arith))
 find-by t k P (suc left) x none some = if-eq P (key t x) k
     (λ e. some x (omega arith) (omega arith) e)
     (λ ne. find-by t k P left (x + 1)
-      (λ f. none (λ z a c. by-eq z x (λ q e. ne (ap (key t) (sym q) ∙ e)) (λ q. f z (omega arith) (omega arith))))
-      (λ z a c e. some z (omega arith) (omega arith) e))
+    (λ f. none (λ z a c. by-eq z x (λ q e. ne (ap (key t) (sym q) ∙ e)) (λ q. f z (omega arith) (omega arith))))
+    (λ z a c e. some z (omega arith) (omega arith) e))
 
 not-le : (a c : ℕ) → c < a → T (not (leb a c))
 not-le a c lt = by-test (leb a c) (λ t. absurd (omega (arith, leb→le a c t))) (λ t. t)
@@ -78,8 +78,8 @@ module _ (m : Memory) (g : Ghost) (b : Map) (N : Nodes m g) (B : Book m b) (k ba
   look-right : 1 ≤ k → lookNode m back (findFrom (m .nodes) k (m .counts .nodes) 1) ≡ lookIn b k back
   look-right low = find-by (m .nodes) k (λ x. lookNode m back x ≡ lookIn b k back) (m .counts .nodes) 1
       (λ f. none-right (λ z h. by-eq z 0
-        (λ q e. omega (arith, ap (key (m .nodes)) q, N .head-key))
-        (λ q. f z (omega arith) (omega arith))))
+      (λ q e. omega (arith, ap (key (m .nodes)) q, N .head-key))
+      (λ q. f z (omega arith) (omega arith))))
       (λ z a c e. node-right z a (omega arith) e)
 
 pub look-outcome : {K W : ℕ} {w : Store} {h : History} (l : Live K W w h) (k back : ℕ)
@@ -87,9 +87,9 @@ pub look-outcome : {K W : ℕ} {w : Store} {h : History} (l : Live K W w h) (k b
 unfolding lookOf lookPermit
 look-outcome {w = w} l k back =
     rw (core-lawful (l .core)) (by-test (lawfulKey k)
-      (λ t. rw (is-true (lawfulKey k) t) (unfold lookBy in
-        (look-right (memory w) (l .g) (l .b) (l .core .nodes) (l .core .book) k back (leb→le 1 k (and→ (leb 1 k) (leb k greatestKey) t .0)))))
-      (λ t. rw (is-false (lawfulKey k) t) (unfold lookBy in refl)))
+    (λ t. rw (is-true (lawfulKey k) t) (unfold lookBy in
+    (look-right (memory w) (l .g) (l .b) (l .core .nodes) (l .core .book) k back (leb→le 1 k (and→ (leb 1 k) (leb k (limits .key)) t .0)))))
+    (λ t. rw (is-false (lawfulKey k) t) (unfold lookBy in refl)))
   where
     is-false : (x : Bool) → T (not x) → x ≡ false
     is-false true t = absurd t
@@ -101,11 +101,35 @@ unfolding sawLook
 look-live {K} {W} {w} {h} l k back =
     let q = l .hist in
     let whole : take (length (h .log)) (l .eff) ≡ l .eff = take-all (length (h .log)) (l .eff) (omega (arith, q .ticks, q .one-each)) in
-    record { g = l .g; b = l .b; eff = l .eff; core = l .core; hist = record {
-      processes-is = q .processes-is; limit-is = q .limit-is; ticks = q .ticks; one-each = q .one-each; K-is = q .K-is; W-is = q .W-is;
-      book-is = q .book-is; done = q .done; track = q .track; nothing-else = q .nothing-else;
-      looks = ((omega (arith, q .ticks, q .one-each),
-        look-outcome l k back ∙ ap (λ (b : Map). if lawfulKey k then lookIn b k back else Looking.Refused BadKey)
-          (q .book-is ∙ ap (λ es. played K W [] es) (sym whole))), q .looks);
-      tally = q .tally; counted = q .counted; few = q .few; faults = q .faults; past = q .past; pairs = q .pairs
-    } }
+    record {
+      g = l .g;
+      b = l .b;
+      eff = l .eff;
+      core = l .core;
+      hist = record {
+        processes-is = q .processes-is;
+        limit-is = q .limit-is;
+        ticks = q .ticks;
+        one-each = q .one-each;
+        K-is = q .K-is;
+        W-is = q .W-is;
+        book-is = q .book-is;
+        done = q .done;
+        track = q .track;
+        nothing-else = q .nothing-else;
+        looks = (
+          (
+            omega (arith, q .ticks, q .one-each),
+            look-outcome l k back ∙ ap (λ (b : Map). if lawfulKey k then lookIn b k back else Looking.Refused BadKey)
+                (q .book-is ∙ ap (λ es. played K W [] es) (sym whole)),
+          ),
+          q .looks,
+        );
+        tally = q .tally;
+        counted = q .counted;
+        few = q .few;
+        faults = q .faults;
+        past = q .past;
+        pairs = q .pairs;
+      };
+    }

@@ -51,7 +51,7 @@ module _ (m : Memory) (g : Ghost) (s : ℕ) (call : Call) (p : ℕ) (b : Map) (N
   m′ = record {
     nodes = withNext t₁ 0 p x;
     versions = withVersion (m .versions) i (ownVersion call) 0;
-    counts = record { nodes = x; versions = i }
+    counts = record { nodes = x; versions = i };
   }
 
   abbrev g′ : Ghost
@@ -129,7 +129,7 @@ module _ (m : Memory) (g : Ghost) (s : ℕ) (call : Call) (p : ℕ) (b : Map) (N
       back = back-word;
       front = new-word 4 (omega arith);
       others = λ z h ne. old-word z 4 (h .0) (omega arith) (λ q. absurd (ne q));
-      inj = λ z h q. N .inj z p (h .0) (a .used) q
+      inj = λ z h q. N .inj z p (h .0) (a .used) q;
     })
 
     level-up : (l : ℕ) → Level (In m′ g′ (suc l)) (key (m′ .nodes)) (next (m′ .nodes) (suc l))
@@ -151,19 +151,23 @@ module _ (m : Memory) (g : Ghost) (s : ℕ) (call : Call) (p : ℕ) (b : Map) (N
       head-high = high-old 0 (omega arith) ∙ N .head-high;
       high = λ z h. old-or-new z h (λ u. rw (high-old z u) (N .high z u)) (λ q. rw (q, high-x) (omega arith));
       inj = λ z y hz hy q. old-or-new z hz
-        (λ oz. old-or-new y hy
+          (λ oz. old-or-new y hy
           (λ oy. N .inj z y oz oy (sym (keys z oz) ∙ q ∙ keys y oy))
           (λ ey. absurd (unheld z oz (sym (keys z oz) ∙ q ∙ ap (key (m′ .nodes)) ey ∙ key-x))))
-        (λ ez. old-or-new y hy
+          (λ ez. old-or-new y hy
           (λ oy. absurd (unheld y oy (sym (keys y oy) ∙ sym q ∙ ap (key (m′ .nodes)) ez ∙ key-x)))
           (λ ey. ez ∙ sym ey));
-      levels = levels
+      levels = levels;
     }
 
     pub make-grown : (j : ℕ) → Grown m m′ g g′ j
     make-grown j = record {
-      more = omega arith; keys = keys; grow = λ z h. omega (arith, high-old z h); owns = own-old;
-      mine = λ z h q. high-old z h; tops = λ z h q. tops z h
+      more = omega arith;
+      keys = keys;
+      grow = λ z h. omega (arith, high-old z h);
+      owns = own-old;
+      mine = λ z h q. high-old z h;
+      tops = λ z h q. tops z h;
     }
 
     pub locks-old : (l z : ℕ) → In m g l z → lock (m′ .nodes) l z ≡ lock (m .nodes) l z
@@ -174,19 +178,27 @@ module _ (m : Memory) (g : Ghost) (s : ℕ) (call : Call) (p : ℕ) (b : Map) (N
       grown = make-grown j;
       locks = λ l z h q. locks-old l z h ∙ q;
       links = λ l z h q. let l6 : l < 6 = omega (arith, h .1, N .high z (h .0)) in
-        old-word z (4 + l) (h .0) (omega arith) (λ ez el. clash l z ez (cut el) q)
+          old-word z (4 + l) (h .0) (omega arith) (λ ez el. clash l z ez (cut el) q);
     }
       where
         cut : {l : ℕ} → 4 + l ≡ 4 → l ≡ 0
         cut q = omega arith
+
         clash : (l z : ℕ) → z ≡ p → l ≡ 0 → lock (m .nodes) l z ≡ suc j → ⊥
-        clash l z ez el q = omega (arith, held-is,
-          subst (λ k. lock (m .nodes) k p ≡ suc j) el (subst (λ w. lock (m .nodes) l w ≡ suc j) ez q))
+        clash l z ez el q = omega (
+          arith,
+          held-is,
+          subst (λ k. lock (m .nodes) k p ≡ suc j) el (subst (λ w. lock (m .nodes) l w ≡ suc j) ez q),
+        )
 
     pub make-made : Made m′ g′ s x (call .key) (call .top) 1
     make-made = record {
-      used = omega arith; pos = omega arith; height-is = high-x; mine = changed-same (g .own) x (suc s) x refl;
-      key-is = key-x; top-is = new-word 2 (omega arith)
+      used = omega arith;
+      pos = omega arith;
+      height-is = high-x;
+      mine = changed-same (g .own) x (suc s) x refl;
+      key-is = key-x;
+      top-is = new-word 2 (omega arith);
     }
 
     -- ---- the map
@@ -230,10 +242,10 @@ module _ (m : Memory) (g : Ghost) (s : ℕ) (call : Call) (p : ℕ) (b : Map) (N
       keys = λ j h. split j h (λ o. rw (entry-old j o, keys (suc j) o) (B .keys j o)) (λ q. rw (q, entry-x) (sym (at-x 0 ∙ key-x)));
       places = λ j h. split j h (λ o. let w = B .places j o in rw (newest-old (suc j) o) (w .0, omega arith)) (λ q. rw (q, newest-x) (omega arith));
       chains = λ j h. split j h
-        (λ o. rw (entry-old j o, newest-old (suc j) o) (chain-kept (m .versions) (m′ .versions) (m .counts .versions) i (omega arith) fields
+          (λ o. rw (entry-old j o, newest-old (suc j) o) (chain-kept (m .versions) (m′ .versions) (m .counts .versions) i (omega arith) fields
           ((getD b j no-entry) .versions) (newest (m .nodes) (suc j)) (B .chains j o)))
-        (λ q. rw (q, entry-x, newest-x) chain-x);
-      sorted = λ j h. split j h (λ o. rw (entry-old j o) (B .sorted j o)) (λ q. rw (q, entry-x) (tt, tt))
+          (λ q. rw (q, entry-x, newest-x) chain-x);
+      sorted = λ j h. split j h (λ o. rw (entry-old j o) (B .sorted j o)) (λ q. rw (q, entry-x) (tt, tt));
     }
 
     pub make-risen : (pr pr′ : Process) → Climbs pr′ x → ((z : ℕ) → ¬ (Climbs pr z)) → Risen m m′ g g′ pr pr′
@@ -257,7 +269,7 @@ module _ (m : Memory) (g : Ghost) (s : ℕ) (pr : Process) (tick : ℕ) (b : Map
   held₀ = subst (λ l. lock (m .nodes) l (c .pred) ≡ suc s) el h
 
   put-says : putIn (maxNodes m) (maxVersions m) b (pr .call .key) (ownVersion (pr .call))
-    ≡ (if leb (maxNodes m) (m .counts .nodes) then answered b KeysFull
+      ≡ (if leb (maxNodes m) (m .counts .nodes) then answered b KeysFull
       else if leb (maxVersions m) (m .counts .versions) then answered b VersionsFull
       else answered (b₁ m g s (pr .call) (c .pred) b N B) New)
   unfolding putIn putBy
@@ -266,8 +278,8 @@ module _ (m : Memory) (g : Ghost) (s : ℕ) (pr : Process) (tick : ℕ) (b : Map
       ∙ rw (B .count, B .sum) refl
 
   written : (room : m .counts .nodes < maxNodes m) (space : m .counts .versions < maxVersions m)
-    → putIn (maxNodes m) (maxVersions m) b (pr .call .key) (ownVersion (pr .call)) ≡ answered (b₁ m g s (pr .call) (c .pred) b N B) New
-    → Good m g s pr tick b (committed c (m .counts .nodes + 1) New) (addNode (pr .call) c m)
+      → putIn (maxNodes m) (maxVersions m) b (pr .call .key) (ownVersion (pr .call)) ≡ answered (b₁ m g s (pr .call) (c .pred) b N B) New
+      → Good m g s pr tick b (committed c (m .counts .nodes + 1) New) (addNode (pr .call) c m)
   unfolding addNode processAfter
   written room space e = record {
     node-words = nodes-length m g s (pr .call) (c .pred) b N B at₀ clear₀ held₀ room space;
@@ -276,15 +288,22 @@ module _ (m : Memory) (g : Ghost) (s : ℕ) (pr : Process) (tick : ℕ) (b : Map
     b′ = b₁ m g s (pr .call) (c .pred) b N B;
     nodes = make-nodes m g s (pr .call) (c .pred) b N B at₀ clear₀ held₀ room space;
     book = make-book m g s (pr .call) (c .pred) b N B at₀ clear₀ held₀ room space;
-    fits = record { kind = Put; phase = Release; kind-is = ek; phase-is = refl; ok = (
-      placed-kept (make-grown m g s (pr .call) (c .pred) b N B at₀ clear₀ held₀ room space s) q,
-      tick-pos,
-      locks-old m g s (pr .call) (c .pred) b N B at₀ clear₀ held₀ room space (c .level) (c .pred) (q .spot .used, q .spot .up) ∙ h,
-      (omega arith, rw el (make-made m g s (pr .call) (c .pred) b N B at₀ clear₀ held₀ room space))) };
+    fits = record {
+      kind = Put;
+      phase = Release;
+      kind-is = ek;
+      phase-is = refl;
+      ok = (
+        placed-kept (make-grown m g s (pr .call) (c .pred) b N B at₀ clear₀ held₀ room space s) q,
+        tick-pos,
+        locks-old m g s (pr .call) (c .pred) b N B at₀ clear₀ held₀ room space (c .level) (c .pred) (q .spot .used, q .spot .up) ∙ h,
+        (omega arith, rw el (make-made m g s (pr .call) (c .pred) b N B at₀ clear₀ held₀ room space)),
+      );
+    };
     frame = make-frame m g s (pr .call) (c .pred) b N B at₀ clear₀ held₀ room space;
     does = (ek, unset, e);
     risen = make-risen m g s (pr .call) (c .pred) b N B at₀ clear₀ held₀ room space pr
-      (processAfter tick pr (committed c (m .counts .nodes + 1) New)) (record { kind = ek; answer = refl; made = refl }) (λ z k. no-climb ea z k)
+        (processAfter tick pr (committed c (m .counts .nodes + 1) New)) (record { kind = ek; answer = refl; made = refl }) (λ z k. no-climb ea z k);
   }
 
   pub make-good : Result m g s pr tick b (makeOf (pr .call) c m)
@@ -295,7 +314,7 @@ module _ (m : Memory) (g : Ghost) (s : ℕ) (pr : Process) (tick : ℕ) (b : Map
       let full-versions = leb (maxVersions m) (m .counts .versions) in
       if-by R full (λ t. unwritten m g s pr tick b N B tick-pos ek unset ea q h KeysFull tt (put-says ∙ if-yes full _ _ t)) λ t.
       if-by R full-versions (λ u. unwritten m g s pr tick b N B tick-pos ek unset ea q h VersionsFull tt
-        (put-says ∙ if-no full _ _ t ∙ if-yes full-versions _ _ u)) λ u.
+      (put-says ∙ if-no full _ _ t ∙ if-yes full-versions _ _ u)) λ u.
       if-lt R topLevel (pr .call .top) (λ w. absurd (omega (arith, q .top5)))
-        (λ w. written (nleb→lt (maxNodes m) (m .counts .nodes) t) (nleb→lt (maxVersions m) (m .counts .versions) u)
-          (put-says ∙ if-no full _ _ t ∙ if-no full-versions _ _ u))
+      (λ w. written (nleb→lt (maxNodes m) (m .counts .nodes) t) (nleb→lt (maxVersions m) (m .counts .versions) u)
+      (put-says ∙ if-no full _ _ t ∙ if-no full-versions _ _ u))

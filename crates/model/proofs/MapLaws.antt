@@ -27,7 +27,7 @@ first-tail : {e : Entry} {b : Map} {k i : ℕ} → First (e ∷ b) k (suc i) →
 first-tail {e} {b} {k} {i} f = record {
   lies = omega (arith, f .lies);
   key = f .key;
-  before = λ j h. f .before (suc j) (omega arith)
+  before = λ j h. f .before (suc j) (omega arith);
 }
 
 pub versions-none : (b : Map) (k : ℕ) → ((i : ℕ) → i < length b → (getD b i no-entry) .key ≢ k) → versionsOf b k ≡ []

@@ -10,7 +10,7 @@ use lib.ListN.{length, getD, set, replicate, length-replicate, length-set}
 use lib.Seq.{getD-set-same, getD-set-other}
 use Rattle.model.specs.Types.{Kind, Idle, Walk, Answer, Refusal, Permit, Granted, Denied, Process, Opening}
 use Rattle.model.specs.Choice.{if_then_else_}
-use Rattle.model.specs.Layout.{Memory, nodeWords, versionWords, mostNodes, mostVersions, mostProcesses, mostEvents, answers, capacity, word, withWord, key, top, next, lock, freshNodes}
+use Rattle.model.specs.Layout.{Memory, nodeWords, versionWords, limits, capacity, word, withWord, key, top, next, lock, freshNodes}
 use Rattle.model.specs.Map.{Map, held}
 use Rattle.model.specs.Numbers.{placeOf}
 use Rattle.model.specs.State.{idleProcess, noProcess, freshState, within, lawfulLength, lawfulNodes, lawfulVersions, isIdle}
@@ -45,28 +45,28 @@ granted-lawful nodes versions processes limit =
     let P : Permit → Type 0 = λ d. d ≡ Granted → Lawful nodes versions processes limit in
     if-by P (not (lawfulNodes (length nodes))) (λ t e. absurd (granted≢denied e)) λ t1.
     if-by P (not (lawfulVersions (length versions))) (λ t e. absurd (granted≢denied e)) λ t2.
-    if-by P (not (within 1 mostProcesses processes)) (λ t e. absurd (granted≢denied e)) λ t3.
-    if-by P (not (within 1 mostEvents limit)) (λ t e. absurd (granted≢denied e)) λ t4 e. record {
+    if-by P (not (within 1 (limits .processes) processes)) (λ t e. absurd (granted≢denied e)) λ t3.
+    if-by P (not (within 1 (limits .events) limit)) (λ t e. absurd (granted≢denied e)) λ t4 e. record {
       node-length = plain (lawfulNodes (length nodes)) t1;
       version-length = plain (lawfulVersions (length versions)) t2;
-      processes-in = in-range 1 mostProcesses processes (plain (within 1 mostProcesses processes) t3);
-      limit-in = in-range 1 mostEvents limit (plain (within 1 mostEvents limit) t4)
+      processes-in = in-range 1 (limits .processes) processes (plain (within 1 (limits .processes) processes) t3);
+      limit-in = in-range 1 (limits .events) limit (plain (within 1 (limits .events) limit) t4);
     }
 
 -- a lawful length is that of its capacity, and one record more
 node-size : (n : ℕ) → T (lawfulNodes n) → n ≡ nodeWords * capacity nodeWords n + nodeWords
 unfolding lawfulLength capacity
 node-size n t =
-    let q = and→ (within (2 * nodeWords) (nodeWords * suc mostNodes) n) (eqb (n % nodeWords) 0) t in
-    let r = in-range (2 * nodeWords) (nodeWords * suc mostNodes) n (q .0) in
+    let q = and→ (within (2 * nodeWords) (nodeWords * suc (limits .nodes)) n) (eqb (n % nodeWords) 0) t in
+    let r = in-range (2 * nodeWords) (nodeWords * suc (limits .nodes)) n (q .0) in
     let e = eqb→eq (n % nodeWords) 0 (q .1) in
     omega arith
 
 version-size : (n : ℕ) → T (lawfulVersions n) → n ≡ versionWords * capacity versionWords n + versionWords
 unfolding lawfulLength capacity
 version-size n t =
-    let q = and→ (within (2 * versionWords) (versionWords * suc mostVersions) n) (eqb (n % versionWords) 0) t in
-    let r = in-range (2 * versionWords) (versionWords * suc mostVersions) n (q .0) in
+    let q = and→ (within (2 * versionWords) (versionWords * suc (limits .versions)) n) (eqb (n % versionWords) 0) t in
+    let r = in-range (2 * versionWords) (versionWords * suc (limits .versions)) n (q .0) in
     let e = eqb→eq (n % versionWords) 0 (q .1) in
     omega arith
 
@@ -80,7 +80,9 @@ module _ (nodes versions : List ℕ) (processes limit : ℕ) (law : Lawful nodes
   abbrev w₀ : Store
   w₀ = record {
     state = freshState processes limit (record { nodes = n; versions = length versions });
-    nodes = freshNodes n; versions = replicate (length versions) 0; tally = replicate answers 0
+    nodes = freshNodes n;
+    versions = replicate (length versions) 0;
+    tally = replicate (limits .answers) 0;
   }
 
   abbrev g₀ : Ghost
@@ -101,7 +103,7 @@ module _ (nodes versions : List ℕ) (processes limit : ℕ) (law : Lawful nodes
   fresh-level : (l : ℕ) → Level (In m₀ g₀ l) (key (m₀ .nodes)) (next (m₀ .nodes) l)
   fresh-level l = record {
     step = λ x i ne. absurd (ne (fresh-word x (4 + l) (omega (arith, i .1)) (λ e. omega arith)));
-    gap = λ x z i j lt. absurd (omega (arith, fresh-word x 0 (omega arith) (λ e. omega arith), fresh-word z 0 (omega arith) (λ e. omega arith)))
+    gap = λ x z i j lt. absurd (omega (arith, fresh-word x 0 (omega arith) (λ e. omega arith), fresh-word z 0 (omega arith) (λ e. omega arith)));
   }
 
   fresh-nodes : Nodes m₀ g₀
@@ -112,7 +114,7 @@ module _ (nodes versions : List ℕ) (processes limit : ℕ) (law : Lawful nodes
     head-high = refl;
     high = λ x h. omega arith;
     inj = λ x y hx hy e. omega arith;
-    levels = fresh-level
+    levels = fresh-level;
   }
 
   fresh-book : Book m₀ []
@@ -127,7 +129,7 @@ module _ (nodes versions : List ℕ) (processes limit : ℕ) (law : Lawful nodes
         keys = λ i h. absurd (omega arith);
         places = λ i h. absurd (omega arith);
         chains = λ i h. absurd (omega arith);
-        sorted = λ i h. absurd (omega arith)
+        sorted = λ i h. absurd (omega arith);
       }
 
   -- every process is idle, and so is what is read past the array's end
@@ -162,11 +164,11 @@ module _ (nodes versions : List ℕ) (processes limit : ℕ) (law : Lawful nodes
     nodes = fresh-nodes;
     book = fresh-book;
     fits = λ i. fresh-slot (λ q. Fits m₀ g₀ i q)
-      (record { kind = Idle; phase = Walk; kind-is = refl; phase-is = refl; ok = tt })
-      (record { kind = Idle; phase = Walk; kind-is = refl; phase-is = refl; ok = tt }) i;
+        (record { kind = Idle; phase = Walk; kind-is = refl; phase-is = refl; ok = tt })
+        (record { kind = Idle; phase = Walk; kind-is = refl; phase-is = refl; ok = tt }) i;
     tops = λ x h f. omega (arith, fresh-top, ap (top (freshNodes n)) (zero-is x h));
     locks = λ i l x h6 hx e. absurd (omega (arith, fresh-word x (10 + l) (omega arith) (λ q. omega arith)));
-    beyond = λ i h. fresh-slot (λ q. q .call .kind ≡ Idle) refl refl i
+    beyond = λ i h. fresh-slot (λ q. q .call .kind ≡ Idle) refl refl i;
   }
     where
       zero-is : (x : ℕ) → x ≤ 0 → x ≡ 0
@@ -189,8 +191,8 @@ module _ (nodes versions : List ℕ) (processes limit : ℕ) (law : Lawful nodes
     book-is = refl;
     done = tt;
     track = λ i. fresh-slot (λ q. Track (capacity nodeWords n) (capacity versionWords (length versions)) [] [] i Rattle.model.specs.History.noInvoked q)
-      (record { same = refl; resting = λ e. refl; begun = omega arith; entered = λ ne. absurd (ne refl) })
-      (record { same = refl; resting = λ e. refl; begun = omega arith; entered = λ ne. absurd (ne refl) }) i;
+        (record { same = refl; resting = λ e. refl; begun = omega arith; entered = λ ne. absurd (ne refl) })
+        (record { same = refl; resting = λ e. refl; begun = omega arith; entered = λ ne. absurd (ne refl) }) i;
     nothing-else = λ k i c e. absurd (nothing≢took e);
     looks = tt;
     tally = λ a. filled {A = ℕ} 7 (placeOf a) 0;
@@ -198,18 +200,18 @@ module _ (nodes versions : List ℕ) (processes limit : ℕ) (law : Lawful nodes
     few = omega arith;
     faults = refl;
     past = λ i ne. tt;
-    pairs = tt
+    pairs = tt;
   }
 
 -- the store that an accepted opening leaves
 pub opened-live : (nodes versions : List ℕ) (processes limit : ℕ) → openOf nodes versions processes limit .result .outcome ≡ Opening.Opened
     → let r = begin (openOf nodes versions processes limit) processes limit in
-      Live (capacity nodeWords (length nodes)) (capacity versionWords (length versions)) (r .store) (r .history)
+    Live (capacity nodeWords (length nodes)) (capacity versionWords (length versions)) (r .store) (r .history)
 unfolding openOf
 opened-live nodes versions processes limit = go (openPermit nodes versions processes limit) refl
   where
     go : (d : Permit) → openPermit nodes versions processes limit ≡ d → openBy d nodes versions processes limit .result .outcome ≡ Opening.Opened
-      → let r = begin (openBy d nodes versions processes limit) processes limit in
+        → let r = begin (openBy d nodes versions processes limit) processes limit in
         Live (capacity nodeWords (length nodes)) (capacity versionWords (length versions)) (r .store) (r .history)
     go (Denied x) e o = absurd (unfold openBy in (refused≢opened x o))
       where

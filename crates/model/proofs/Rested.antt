@@ -46,9 +46,12 @@ module _ {w : Store} {g : Ghost} {b : Map} (k : Core w g b) (idle : (i : ℕ) �
       idle≢put e = let z : _≡_ {A = ℕ} 0 1 = cc in omega arith
 
   on-in : (l x : ℕ) → l < 6 → On m l x → In m g l x
-  on-in l x h6 o = (o .0, by-eq x 0
-      (λ e. omega (arith, ap (g .high) e, k .nodes .head-high))
-      (λ ne. omega (arith, linked-up x (o .0), o .1 ne)))
+  on-in l x h6 o = (
+    o .0,
+    by-eq x 0
+        (λ e. omega (arith, ap (g .high) e, k .nodes .head-high))
+        (λ ne. omega (arith, linked-up x (o .0), o .1 ne)),
+  )
 
   in-on : (l x : ℕ) → In m g l x → On m l x
   in-on l x i = (i .0, λ ne. omega (arith, i .1, linked-up x (i .0)))
@@ -60,8 +63,8 @@ module _ {w : Store} {g : Ghost} {b : Map} (k : Core w g b) (idle : (i : ℕ) �
     nearest = λ x z ox oz lt. k .nodes .levels l .gap x z (on-in l x h6 ox) (on-in l z h6 oz) lt;
     distinct = λ x z ox oz e. k .nodes .inj x z (ox .0) (oz .0) e;
     first = λ z oz ne.
-      let d : key (m .nodes) z ≢ key (m .nodes) 0 = λ e. ne (k .nodes .inj z 0 (oz .0) (omega arith) e) in
-      omega (arith, k .nodes .head-key)
+        let d : key (m .nodes) z ≢ key (m .nodes) 0 = λ e. ne (k .nodes .inj z 0 (oz .0) (omega arith) e) in
+        omega (arith, k .nodes .head-key);
   }
 
   pub rested-sound : Sound m

@@ -11,7 +11,7 @@ use lib.ListN.{length, getD, set, replicate, length-set, length-append}
 use lib.Seq.{getD-set-same, getD-set-other}
 use Rattle.model.specs.Types.{Kind, Idle, Put, Get, Walk, None, Refusal, Call, Process, Permit, Granted, Denied, Starting}
 use Rattle.model.specs.Choice.{if_then_else_}
-use Rattle.model.specs.Layout.{greatestKey}
+use Rattle.model.specs.Layout.{limits}
 use Rattle.model.specs.Map.{Map}
 use Rattle.model.specs.Numbers.{numberOf}
 use Rattle.model.specs.State.{noProcess, lawfulKey, isIdle, withEvent}
@@ -51,9 +51,9 @@ allowed h i k =
     if-by P (not idle) (λ t e. absurd (granted≢denied e)) λ t3.
     if-by P (leb (h .limit) (length (h .log))) (λ t e. absurd (granted≢denied e)) λ t4 e. record {
       below = nleb→lt (h .processes) i t1;
-      key-low = leb→le 1 k (and→ (leb 1 k) (leb k greatestKey) (plain (lawfulKey k) t2) .0);
+      key-low = leb→le 1 k (and→ (leb 1 k) (leb k (limits .key)) (plain (lawfulKey k) t2) .0);
       idle = idle-is (h .invoked i .operation .kind) (plain idle t3);
-      time = nleb→lt (h .limit) (length (h .log)) t4
+      time = nleb→lt (h .limit) (length (h .log)) t4;
     }
   where
     plain : (x : Bool) → T (not (not x)) → T x
@@ -111,24 +111,32 @@ module _ {K W : ℕ} {w : Store} {h : History} (l : Live K W w h) (i : ℕ) (a :
     start-core =
         let k = l .core in
         record {
-          opened = k .opened; processes = k .processes; limit = k .limit;
+          opened = k .opened;
+          processes = k .processes;
+          limit = k .limit;
           events = omega (arith, al .time, l .hist .ticks, l .hist .limit-is);
-          node-length = k .node-length; version-length = k .version-length; nodes-lent = k .nodes-lent; versions-lent = k .versions-lent;
-          tally = k .tally; array = length-set (w .state .process) i (begun call) ∙ k .array; nodes = k .nodes; book = k .book;
+          node-length = k .node-length;
+          version-length = k .version-length;
+          nodes-lent = k .nodes-lent;
+          versions-lent = k .versions-lent;
+          tally = k .tally;
+          array = length-set (w .state .process) i (begun call) ∙ k .array;
+          nodes = k .nodes;
+          book = k .book;
           fits = λ j. by-eq j i
-            (λ e. rw (e, here) (begun-fits (call .kind) refl busy (begun-placed (al .key-low))))
-            (λ ne. rw (there j ne) (k .fits j));
+              (λ e. rw (e, here) (begun-fits (call .kind) refl busy (begun-placed (al .key-low))))
+              (λ ne. rw (there j ne) (k .fits j));
           tops = λ x u f. k .tops x u (λ j. by-eq j i
-            (λ e c. idle≢put (subst (λ q. slot w q .call .kind ≡ Put) e (c .kind)))
-            (λ ne c. f j (rw (there j ne) c)));
+              (λ e c. idle≢put (subst (λ q. slot w q .call .kind ≡ Put) e (c .kind)))
+              (λ ne c. f j (rw (there j ne) c)));
           locks = λ j. by-eq j i
-            (λ e l x h6 hx q. absurd (k .locks i l x h6 hx (q ∙ ap suc e) .kind resting))
-            (λ ne. rw (there j ne) (k .locks j));
-          beyond = λ j u. ap (λ (q : Process). q .call .kind) (there j (omega (arith, below))) ∙ k .beyond j u
+              (λ e l x h6 hx q. absurd (k .locks i l x h6 hx (q ∙ ap suc e) .kind resting))
+              (λ ne. rw (there j ne) (k .locks j));
+          beyond = λ j u. ap (λ (q : Process). q .call .kind) (there j (omega (arith, below))) ∙ k .beyond j u;
         }
 
     start-hist : startDue h i (call .key) ≡ Granted
-      → Hist K W (withState w (withEvent (w .state) i (w .state .counts) (begun call))) (sawStart h a i operation (Starting.Started (w .state .events + 1)))
+        → Hist K W (withState w (withEvent (w .state) i (w .state .counts) (begun call))) (sawStart h a i operation (Starting.Started (w .state .events + 1)))
         (l .b) (l .eff ++ (nothing ∷ []))
     unfolding sawStart fed
     start-hist granted =
@@ -136,40 +144,47 @@ module _ {K W : ℕ} {w : Store} {h : History} (l : Live K W w h) (i : ℕ) (a :
         let q = l .hist in
         let i8 : i < 8 = omega (arith, k .processes .1, below) in
         event-hist K W w h (l .b) (l .eff) q (k .array) i i8 a nothing (memory w) (begun call) (w .tally) invoked′ (suc (h .starts)) (h .completed)
-          (h .faults + unless (isGranted (startDue h i (call .key)) && eqb (w .state .events + 1) (tickOf h))) (l .b) (record {
-            K-same = refl; W-same = refl; map-is = refl;
-            others = λ j ne. invoked-other (h .invoked) i invoked₀ j ne;
-            track = record {
-              same = invoked-same (h .invoked) i invoked₀
+        (h .faults + unless (isGranted (startDue h i (call .key)) && eqb (w .state .events + 1) (tickOf h))) (l .b) (record {
+          K-same = refl;
+          W-same = refl;
+          map-is = refl;
+          others = λ j ne. invoked-other (h .invoked) i invoked₀ j ne;
+          track = record {
+            same = invoked-same (h .invoked) i invoked₀
                 ∙ ap (λ n. record { operation = operation; start = n }) (omega (arith, q .ticks, start-is));
-              resting = λ e. refl;
-              begun = omega (arith, q .ticks, start-is, length-append (h .log) (a ∷ []));
-              entered = λ ne. absurd (ne refl)
-            };
-            done = done-grow K W w h (l .b) (l .eff) q (k .array) i i8 a nothing (memory w) (begun call) (w .tally) invoked′ (suc (h .starts)) (h .completed) 0 (l .b);
-            kept = λ n j c d. d;
-            old = λ n c e f. absurd (omega (arith, q .track i .resting resting));
-            now = λ n j c e f. absurd (nothing≢took f);
-            tally = q .tally;
-            counted = omega (arith, q .counted, busy-set (w .state .process) i (w .state .processes) (begun call) below inside,
-              none-busy (slot w i .call .kind) resting, one-busy (call .kind) busy);
-            few = omega (arith, q .few);
-            no-faults = omega (arith, q .faults, no-fault (startDue h i (call .key)) (w .state .events + 1) (tickOf h) granted (omega (arith, q .ticks)));
-            past = λ j ks. by-eq j i
+            resting = λ e. refl;
+            begun = omega (arith, q .ticks, start-is, length-append (h .log) (a ∷ []));
+            entered = λ ne. absurd (ne refl);
+          };
+          done = done-grow K W w h (l .b) (l .eff) q (k .array) i i8 a nothing (memory w) (begun call) (w .tally) invoked′ (suc (h .starts)) (h .completed) 0 (l .b);
+          kept = λ n j c d. d;
+          old = λ n c e f. absurd (omega (arith, q .track i .resting resting));
+          now = λ n j c e f. absurd (nothing≢took f);
+          tally = q .tally;
+          counted = omega (
+            arith,
+            q .counted,
+            busy-set (w .state .process) i (w .state .processes) (begun call) below inside,
+            none-busy (slot w i .call .kind) resting,
+            one-busy (call .kind) busy,
+          );
+          few = omega (arith, q .few);
+          no-faults = omega (arith, q .faults, no-fault (startDue h i (call .key)) (w .state .events + 1) (tickOf h) granted (omega (arith, q .ticks)));
+          past = λ j ks. by-eq j i
               (λ e. all-map (λ d s r. omega (arith, s .ended, ap (λ (y : Invoked). y .start) (ap invoked′ e ∙ invoked-same (h .invoked) i invoked₀)))
-                (h .completed) (q .done))
+              (h .completed) (q .done))
               (λ ne. let e = invoked-other (h .invoked) i invoked₀ j ne in
-                subst (λ (y : Invoked). All (λ (d : Rattle.model.specs.History.Completed). d .process ≡ j → d .ended < y .start) (h .completed)) (sym e)
-                  (q .past j (λ z. ks (ap (λ (y : Invoked). y .operation .kind) e ∙ z))));
-            pairs = q .pairs
-          })
+              subst (λ (y : Invoked). All (λ (d : Rattle.model.specs.History.Completed). d .process ≡ j → d .ended < y .start) (h .completed)) (sym e)
+              (q .past j (λ z. ks (ap (λ (y : Invoked). y .operation .kind) e ∙ z))));
+          pairs = q .pairs;
+        })
 
   pub start-live : Live K W (withState w (startBy (startPermit (w .state) (w .nodes) (w .versions) i (call .key)) (w .state) i call .state))
-    (sawStart h a i operation (startBy (startPermit (w .state) (w .nodes) (w .versions) i (call .key)) (w .state) i call .outcome))
+      (sawStart h a i operation (startBy (startPermit (w .state) (w .nodes) (w .versions) i (call .key)) (w .state) i call .outcome))
   start-live = rw due (go (startDue h i (call .key)) refl)
     where
       go : (d : Permit) → startDue h i (call .key) ≡ d
-        → Live K W (withState w (startBy d (w .state) i call .state)) (sawStart h a i operation (startBy d (w .state) i call .outcome))
+          → Live K W (withState w (startBy d (w .state) i call .state)) (sawStart h a i operation (startBy d (w .state) i call .outcome))
       go (Denied r) e = unfold startBy sawStart in (due-denied (startDue h i (call .key)) r e l)
       go Granted e = unfold startBy in (let al = allowed h i (call .key) e in
           record { g = l .g; b = l .b; eff = l .eff ++ (nothing ∷ []); core = start-core al; hist = start-hist al e })

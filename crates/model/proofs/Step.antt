@@ -35,7 +35,7 @@ Does m pr tick b b′ (Commit c a) = (pr .call .kind ≡ Put) × (pr .effect .ti
     × (putIn (maxNodes m) (maxVersions m) b (pr .call .key) (ownVersion (pr .call)) ≡ answered b′ a)
 Does m pr tick b b′ (End a v e) = (b′ ≡ b)
     × (((pr .call .kind ≡ Get) × (pr .effect .tick ≡ 0) × (e ≡ tick) × (getFrom b (pr .call .key) ≡ record { answer = a; version = v }))
-      ⊎ ((pr .call .kind ≡ Put) × (pr .effect .tick ≢ 0) × (e ≡ pr .effect .tick) × (a ≡ pr .effect .answer) × (v ≡ ownVersion (pr .call))))
+    ⊎ ((pr .call .kind ≡ Put) × (pr .effect .tick ≢ 0) × (e ≡ pr .effect .tick) × (a ≡ pr .effect .answer) × (v ≡ ownVersion (pr .call))))
 
 pub record Good (m : Memory) (g : Ghost) (i : ℕ) (pr : Process) (tick : ℕ) (b : Map) (v : Move) (m′ : Memory) : Type 0 where
   pub node-words : length (m′ .nodes) ≡ length (m .nodes)
@@ -94,7 +94,7 @@ idle-fits m g i = record { kind = Idle; phase = Walk; kind-is = refl; phase-is =
 
 module _ (m : Memory) (g : Ghost) (b : Map) (N : Nodes m g) (B : Book m b) where
   pub link-in : {l p k : ℕ} → At m g l p k → next (m .nodes) l p ≢ 0
-    → In m g l (next (m .nodes) l p) × (key (m .nodes) p < key (m .nodes) (next (m .nodes) l p))
+      → In m g l (next (m .nodes) l p) × (key (m .nodes) p < key (m .nodes) (next (m .nodes) l p))
   link-in {l} {p} a ne = N .levels l .step p (a .used, a .up) ne
 
   pub not-unused : {l p k : ℕ} → At m g l p k → Related m l p k Unused → ⊥
@@ -119,7 +119,7 @@ module _ (m : Memory) (g : Ghost) (b : Map) (N : Nodes m g) (B : Book m b) where
   first-at j k le e = record {
     lies = omega (arith, B .count);
     key = B .keys j (omega arith) ∙ e;
-    before = λ h lt eh. clash h lt (N .inj (suc h) (suc j) (omega arith) le (sym (B .keys h (omega arith)) ∙ eh ∙ sym e))
+    before = λ h lt eh. clash h lt (N .inj (suc h) (suc j) (omega arith) le (sym (B .keys h (omega arith)) ∙ eh ∙ sym e));
   }
     where
       clash : (h : ℕ) → h < j → suc h ≡ suc j → ⊥
@@ -130,13 +130,13 @@ module _ (m : Memory) (g : Ghost) (b : Map) (N : Nodes m g) (B : Book m b) where
   place-in (suc j) pos le = B .places j (omega arith)
 
   chain-head : (vs : List Version) (x : ℕ) → Chain (m .versions) (m .counts .versions) x vs → 1 ≤ x
-    → getBy vs ≡ record { answer = Found; version = versionAt (m .versions) x }
+      → getBy vs ≡ record { answer = Found; version = versionAt (m .versions) x }
   unfolding getBy
   chain-head [] x h p = absurd (omega arith)
   chain-head (v ∷ vs) x h p = rw (h .2, h .3)
 
   pub get-at-node : (x k : ℕ) → 1 ≤ x → x ≤ m .counts .nodes → key (m .nodes) x ≡ k
-    → getFrom b k ≡ record { answer = Found; version = versionAt (m .versions) (newest (m .nodes) x) }
+      → getFrom b k ≡ record { answer = Found; version = versionAt (m .versions) (newest (m .nodes) x) }
   unfolding getFrom
   get-at-node zero k pos le e = absurd (omega arith)
   get-at-node (suc j) k pos le e =
@@ -154,9 +154,18 @@ module _ (m : Memory) (g : Ghost) (i : ℕ) (pr : Process) (tick : ℕ) (b : Map
 
   -- a step that changes the process alone
   pub still : (v : Move) → Fits m g i (processAfter tick pr v) → Does m pr tick b b v
-    → Risen m m g g pr (processAfter tick pr v) → Good m g i pr tick b v m
+      → Risen m m g g pr (processAfter tick pr v) → Good m g i pr tick b v m
   still v f d r = record {
-    node-words = refl; version-words = refl; g′ = g; b′ = b; nodes = N; book = B; fits = f; frame = λ j ne. frame-refl m g j; does = d; risen = r
+    node-words = refl;
+    version-words = refl;
+    g′ = g;
+    b′ = b;
+    nodes = N;
+    book = B;
+    fits = f;
+    frame = λ j ne. frame-refl m g j;
+    does = d;
+    risen = r;
   }
 
   pub goes : (d : Cursor) → d .made ≡ c .made → Fits m g i (processAfter tick pr (Go d)) → Good m g i pr tick b (Go d) m
@@ -174,8 +183,8 @@ module _ (m : Memory) (g : Ghost) (i : ℕ) (pr : Process) (tick : ℕ) (b : Map
     six = length-set (pr .preds) (c .level) (c .pred) ∙ q .six;
     spot = a;
     memo = λ j h. by-eq j (c .level)
-      (λ e. rw (e, getD-set-same (pr .preds) (c .level) (c .pred) 0 (omega (arith, q .six))) (q .spot))
-      (λ e. rw (getD-set-other (pr .preds) (c .level) j (c .pred) 0 e) (q .memo j h))
+        (λ e. rw (e, getD-set-same (pr .preds) (c .level) (c .pred) 0 (omega (arith, q .six))) (q .spot))
+        (λ e. rw (getD-set-other (pr .preds) (c .level) j (c .pred) 0 e) (q .memo j h));
   }
 
   walk-fits : (pr′ : Process) (k : Kind) → k ≢ Idle → pr′ .call .kind ≡ k → pr′ .cursor .phase ≡ Walk → PlacedOf m g pr′ → Unset (pr′ .effect) → Fits m g i pr′
@@ -191,43 +200,55 @@ module _ (m : Memory) (g : Ghost) (i : ℕ) (pr : Process) (tick : ℕ) (b : Map
   Bottom x = (x ≡ 0 → ClearOf m pr) × (x ≢ 0 → FoundAt m 0 x (call .key))
 
   walked-good : (k : Kind) (found : ℕ) → call .kind ≡ k → k ≢ Idle → c .level ≡ 0 → PlacedOf m g pr → Unset (pr .effect) → Bottom found
-    → Good m g i pr tick b (walked k call c tick found) m
+      → Good m g i pr tick b (walked k call c tick found) m
   unfolding walked processAfter getFrom getBy
   walked-good Idle found ek nn el q u h = absurd (nn refl)
   walked-good Put found ek nn el q u h = notes (at c Seek (c .level) (c .pred)) refl (record {
-    kind = Put; phase = Seek; kind-is = ek; phase-is = refl;
-    ok = (noted q (c .level) (c .pred) (q .spot), rw el u)
+    kind = Put;
+    phase = Seek;
+    kind-is = ek;
+    phase-is = refl;
+    ok = (noted q (c .level) (c .pred) (q .spot), rw el u);
   })
   walked-good Get x ek nn el q u h = if-eq (λ v. Good m g i pr tick b v m) x 0
       (λ e. still (End None noVersion tick) (idle-fits m g i)
-        (refl, inl (ek, u .0, refl, rw (none-at m g b N B (c .pred) (call .key) (rw el at (q .spot)) (rw el at (h .0 e)))))
-        (risen-alike (alike-refl m g) (λ y _ k. absurd (get-no-climb ek y k))))
+      (refl, inl (ek, u .0, refl, rw (none-at m g b N B (c .pred) (call .key) (rw el at (q .spot)) (rw el at (h .0 e)))))
+      (risen-alike (alike-refl m g) (λ y _ k. absurd (get-no-climb ek y k))))
       (λ ne. let f = h .1 ne in notes (at c Read (c .level) x) refl (record {
-        kind = Get; phase = Read; kind-is = ek; phase-is = refl;
-        ok = (record { low = el; used = f .used; pos = f .pos; key-is = f .key-is }, u .0)
+        kind = Get;
+        phase = Read;
+        kind-is = ek;
+        phase-is = refl;
+        ok = (record { low = el; used = f .used; pos = f .pos; key-is = f .key-is }, u .0);
       }))
 
   descend-good : (found : ℕ) → call .kind ≢ Idle → PlacedOf m g pr → Unset (pr .effect) → Bottom found
-    → Good m g i pr tick b (descend call c tick found) m
+      → Good m g i pr tick b (descend call c tick found) m
   unfolding descend processAfter
   descend-good found nn q u h = if-eq (λ v. Good m g i pr tick b v m) (c .level) 0
       (λ el. walked-good (call .kind) found refl nn el q u h)
       (λ nl. notes (at c Walk (c .level - 1) (c .pred)) refl
-        (walk-fits (processAfter tick pr (Note (at c Walk (c .level - 1) (c .pred)))) (call .kind) nn refl refl
-          (noted q (c .level - 1) (c .pred) (lower q (omega arith))) u))
+      (walk-fits (processAfter tick pr (Note (at c Walk (c .level - 1) (c .pred)))) (call .kind) nn refl refl
+      (noted q (c .level - 1) (c .pred) (lower q (omega arith))) u))
 
   bottom-of : (y : ℕ) → Related m (c .level) (c .pred) (call .key) (Equal y) → Bottom y
-  bottom-of y r = (λ e. absurd (r .1 .some (sym (r .0) ∙ e)), λ ne. record {
-    low = refl; used = rw (r .0) (r .1 .used); pos = omega arith; key-is = rw (r .0) (r .1 .key-is)
-  })
+  bottom-of y r = (
+    λ e. absurd (r .1 .some (sym (r .0) ∙ e)),
+    λ ne. record {
+      low = refl;
+      used = rw (r .0) (r .1 .used);
+      pos = omega arith;
+      key-is = rw (r .0) (r .1 .key-is);
+    },
+  )
 
   walk-by-good : (a : Ahead) → Related m (c .level) (c .pred) (call .key) a → call .kind ≢ Idle → PlacedOf m g pr → Unset (pr .effect)
-    → Good m g i pr tick b (walkBy call c tick a) m
+      → Good m g i pr tick b (walkBy call c tick a) m
   unfolding walkBy processAfter
   walk-by-good Unused r nn q u = absurd (not-unused m g b N B (q .spot) r)
   walk-by-good (Less y) r nn q u = goes (at c Walk (c .level) y) refl
       (walk-fits (processAfter tick pr (Go (at c Walk (c .level) y))) (call .kind) nn refl refl
-        (record { top5 = q .top5; six = q .six; spot = along m g b N B (q .spot) r; memo = q .memo }) u)
+      (record { top5 = q .top5; six = q .six; spot = along m g b N B (q .spot) r; memo = q .memo }) u)
   walk-by-good (Equal y) r nn q u = descend-good y nn q u (bottom-of y r)
   walk-by-good Past r nn q u = descend-good 0 nn q u (λ e. r, λ ne. absurd (ne refl))
 
@@ -241,18 +262,21 @@ module _ (m : Memory) (g : Ghost) (i : ℕ) (pr : Process) (tick : ℕ) (b : Map
       let x = newest (m .nodes) (c .pred) in
       let q = place-in m g b N B (c .pred) (f .pos) (f .used) in
       if-by (λ v. Good m g i pr tick b v m) (usedVersion m x)
-        (λ t. still (End Found (versionAt (m .versions) x) tick) (idle-fits m g i)
-          (refl, inl (ek, e0, refl, get-at-node m g b N B (c .pred) (call .key) (f .pos) (f .used) (f .key-is)))
-          (risen-alike (alike-refl m g) (λ y _ k. absurd (get-no-climb ek y k))))
-        (λ t. absurd (T-absurd (usedVersion m x) (within-T (q .0) (q .1)) t))
+      (λ t. still (End Found (versionAt (m .versions) x) tick) (idle-fits m g i)
+      (refl, inl (ek, e0, refl, get-at-node m g b N B (c .pred) (call .key) (f .pos) (f .used) (f .key-is)))
+      (risen-alike (alike-refl m g) (λ y _ k. absurd (get-no-climb ek y k))))
+      (λ t. absurd (T-absurd (usedVersion m x) (within-T (q .0) (q .1)) t))
 
   seek-by-good : (a : Ahead) → Related m (c .level) (c .pred) (call .key) a → call .kind ≡ Put → PlacedOf m g pr → StageOf m g i pr
-    → Good m g i pr tick b (seekBy c a) m
+      → Good m g i pr tick b (seekBy c a) m
   unfolding seekBy processAfter
   seek-by-good Unused r ek q s = absurd (not-unused m g b N B (q .spot) r)
   seek-by-good (Less y) r ek q s = goes (at c Seek (c .level) y) refl (record {
-    kind = Put; phase = Seek; kind-is = ek; phase-is = refl;
-    ok = (record { top5 = q .top5; six = q .six; spot = along m g b N B (q .spot) r; memo = q .memo }, s)
+    kind = Put;
+    phase = Seek;
+    kind-is = ek;
+    phase-is = refl;
+    ok = (record { top5 = q .top5; six = q .six; spot = along m g b N B (q .spot) r; memo = q .memo }, s);
   })
   seek-by-good (Equal y) r ek q s = goes (at c Lock (c .level) (c .pred)) refl (record { kind = Put; phase = Lock; kind-is = ek; phase-is = refl; ok = (q, s) })
   seek-by-good Past r ek q s = goes (at c Lock (c .level) (c .pred)) refl (record { kind = Put; phase = Lock; kind-is = ek; phase-is = refl; ok = (q, s) })

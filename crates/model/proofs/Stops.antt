@@ -6,19 +6,19 @@ use Rattle.model.specs.Choice.{if_then_else_}
 
 -- where stopping is impossible, the test was passed
 pub if-passed {ℓ} : {A : Type ℓ} (P : A → Type 0) (b : Bool) {x y : A}
-  → (T b → P x → ⊥) → P (if b then x else y) → T (not b) × P y
+    → (T b → P x → ⊥) → P (if b then x else y) → T (not b) × P y
 if-passed P true out h = absurd (out tt h)
 if-passed P false out h = (tt, h)
 
 -- where going on is impossible, the test was met
 pub if-met {ℓ} : {A : Type ℓ} (P : A → Type 0) (b : Bool) {x y : A}
-  → (T (not b) → P y → ⊥) → P (if b then x else y) → T b × P x
+    → (T (not b) → P y → ⊥) → P (if b then x else y) → T b × P x
 if-met P true out h = (tt, h)
 if-met P false out h = absurd (out tt h)
 
 -- runs that stop alike agree where they agree behind the test
 pub if-same {ℓ} : {A : Type ℓ} (b : Bool) (x : A) {y z : A}
-  → (T (not b) → y ≡ z) → (if b then x else y) ≡ (if b then x else z)
+    → (T (not b) → y ≡ z) → (if b then x else y) ≡ (if b then x else z)
 if-same true x h = refl
 if-same false x h = h tt
 

@@ -9,7 +9,7 @@ use Rattle.model.specs.Types.{Kind, Idle, Put, Get, Phase, Walk, Read, S
 use Rattle.model.specs.Choice.{if_then_else_}
 use Rattle.model.specs.Layout.{Memory, topLevel}
 use Rattle.model.specs.Map.{Map}
-use Rattle.model.specs.Phases.{Moved, inPhase, fromPut, isRelease, lawfulEffect, lawfulProcess, phaseOf, turnOf}
+use Rattle.model.specs.Phases.{Moved, fromPut, noEffect, lawfulAt, lawfulProcess, phaseOf, turnOf}
 use Rattle.model.proofs.Tests.{if-by, is-true, T-absurd, eq→eqb}
 use Rattle.model.proofs.Invariant.{Ghost, Nodes, Book, At, Made, Stage, StageOf, Settled, SettledOf, Ok, Fits}
 use Rattle.model.proofs.Step.{Result, walk-good, read-good, seek-good}
@@ -54,28 +54,6 @@ module _ (m : Memory) (g : Ghost) (i : ℕ) (pr : Process) (tick : ℕ) (b : Map
   basic Put Link nn c = at-basic (c .0 .spot)
   basic Put Release nn c = at-basic (c .0 .spot)
 
-  phase-right : (k : Kind) (ph : Phase) → k ≢ Idle → Ok m g i pr k ph → T (inPhase k ph)
-  unfolding inPhase
-  phase-right Idle ph nn c = absurd (nn refl)
-  phase-right Get Walk nn c = tt
-  phase-right Get Read nn c = tt
-  phase-right Get Seek nn c = c
-  phase-right Get Lock nn c = c
-  phase-right Get Check nn c = c
-  phase-right Get Update nn c = c
-  phase-right Get Make nn c = c
-  phase-right Get Link nn c = c
-  phase-right Get Release nn c = c
-  phase-right Put Walk nn c = tt
-  phase-right Put Read nn c = c
-  phase-right Put Seek nn c = tt
-  phase-right Put Lock nn c = tt
-  phase-right Put Check nn c = tt
-  phase-right Put Update nn c = tt
-  phase-right Put Make nn c = tt
-  phase-right Put Link nn c = tt
-  phase-right Put Release nn c = tt
-
   settled-right : (a : Answer) → Settled m g i (pr .call .top) (pr .cursor .made) (pr .call .key) (pr .cursor .level) a → T (fromPut a)
   unfolding fromPut
   settled-right TooOld c = tt
@@ -86,52 +64,55 @@ module _ (m : Memory) (g : Ghost) (i : ℕ) (pr : Process) (tick : ℕ) (b : Map
   settled-right Found c = c
   settled-right None c = c
 
+  or-left : (a c : Bool) → T a → T (a || c)
+  or-left true c t = tt
+  or-left false c t = absurd t
+
   or-right : (a c : Bool) → T c → T (a || c)
   or-right true c t = tt
   or-right false c t = t
 
   -- no effect yet, or an answer that a put gives
-  unset-right : pr .effect .tick ≡ 0 → (d : Bool) → T (not (not (eqb (pr .effect .tick) 0)) || d)
-  unset-right e d = go (eqb (pr .effect .tick) 0) (eq→eqb (pr .effect .tick) 0 e)
-    where
-      go : (a : Bool) → T a → T (not (not a) || d)
-      go true t = tt
-      go false t = absurd t
+  unset-right : pr .effect .tick ≡ 0 → T (noEffect (pr .effect) || fromPut (pr .effect .answer))
+  unset-right e = or-left (noEffect (pr .effect)) (fromPut (pr .effect .answer)) (eq→eqb (pr .effect .tick) 0 e)
 
-  stage-right : (l : ℕ) → Stage m g i (pr .effect) (pr .call .top) (pr .cursor .made) (pr .call .key) l
-    → T (not (not (eqb (pr .effect .tick) 0)) || fromPut (pr .effect .answer))
-  stage-right zero c = unset-right (c .0) (fromPut (pr .effect .answer))
-  stage-right (suc l) c = or-right (not (not (eqb (pr .effect .tick) 0))) (fromPut (pr .effect .answer)) (unfold fromPut in (rw (c .1) tt))
+  stage-right : (l : ℕ) → Stage m g i (pr .effect) (pr .call .top) (pr .cursor .made) (pr .call .key) l → T (noEffect (pr .effect) || fromPut (pr .effect .answer))
+  stage-right zero c = unset-right (c .0)
+  stage-right (suc l) c = or-right (noEffect (pr .effect)) (fromPut (pr .effect .answer)) (unfold fromPut in (rw (c .1) tt))
 
-  effect-right : (k : Kind) (ph : Phase) → k ≢ Idle → Ok m g i pr k ph → T (lawfulEffect k ph (pr .effect))
-  unfolding lawfulEffect isRelease
-  effect-right Idle ph nn c = absurd (nn refl)
-  effect-right Get Walk nn c = eq→eqb (pr .effect .tick) 0 (c .1 .0)
-  effect-right Get Read nn c = eq→eqb (pr .effect .tick) 0 (c .1)
-  effect-right Get Seek nn c = absurd c
-  effect-right Get Lock nn c = absurd c
-  effect-right Get Check nn c = absurd c
-  effect-right Get Update nn c = absurd c
-  effect-right Get Make nn c = absurd c
-  effect-right Get Link nn c = absurd c
-  effect-right Get Release nn c = absurd c
-  effect-right Put Walk nn c = unset-right (c .1 .0) (fromPut (pr .effect .answer))
-  effect-right Put Read nn c = absurd c
-  effect-right Put Seek nn c = stage-right (pr .cursor .level) (c .1)
-  effect-right Put Lock nn c = stage-right (pr .cursor .level) (c .1)
-  effect-right Put Check nn c = stage-right (pr .cursor .level) (c .1)
-  effect-right Put Update nn c = stage-right (pr .cursor .level) (c .1)
-  effect-right Put Make nn c = stage-right (pr .cursor .level) (c .1)
-  effect-right Put Link nn c = stage-right (pr .cursor .level) (c .1)
-  effect-right Put Release nn c = settled-right (pr .effect .answer) (c .3)
+  at-right : (k : Kind) (ph : Phase) → k ≢ Idle → Ok m g i pr k ph → T (lawfulAt k ph (pr .effect))
+  unfolding lawfulAt
+  at-right Idle ph nn c = absurd (nn refl)
+  at-right Get Walk nn c = eq→eqb (pr .effect .tick) 0 (c .1 .0)
+  at-right Get Read nn c = eq→eqb (pr .effect .tick) 0 (c .1)
+  at-right Get Seek nn c = c
+  at-right Get Lock nn c = c
+  at-right Get Check nn c = c
+  at-right Get Update nn c = c
+  at-right Get Make nn c = c
+  at-right Get Link nn c = c
+  at-right Get Release nn c = c
+  at-right Put Walk nn c = unset-right (c .1 .0)
+  at-right Put Read nn c = c
+  at-right Put Seek nn c = stage-right (pr .cursor .level) (c .1)
+  at-right Put Lock nn c = stage-right (pr .cursor .level) (c .1)
+  at-right Put Check nn c = stage-right (pr .cursor .level) (c .1)
+  at-right Put Update nn c = stage-right (pr .cursor .level) (c .1)
+  at-right Put Make nn c = stage-right (pr .cursor .level) (c .1)
+  at-right Put Link nn c = stage-right (pr .cursor .level) (c .1)
+  at-right Put Release nn c = settled-right (pr .effect .answer) (c .3)
 
   lawful : (k : Kind) (ph : Phase) → k ≢ Idle → pr .call .kind ≡ k → pr .cursor .phase ≡ ph → Ok m g i pr k ph → T (lawfulProcess pr m)
   unfolding lawfulProcess
   lawful k ph nn ek ep c =
       let q = basic k ph nn c in
-      rw (is-true (leb (pr .cursor .level) topLevel) (le→leb (pr .cursor .level) topLevel (omega arith)),
+      rw (
+        is-true (leb (pr .cursor .level) topLevel) (le→leb (pr .cursor .level) topLevel (omega arith)),
         is-true (leb (pr .cursor .pred) (m .counts .nodes)) (le→leb (pr .cursor .pred) (m .counts .nodes) (q .1)),
-        ek, ep, is-true (inPhase k ph) (phase-right k ph nn c), is-true (lawfulEffect k ph (pr .effect)) (effect-right k ph nn c)) tt
+        ek,
+        ep,
+        is-true (lawfulAt k ph (pr .effect)) (at-right k ph nn c),
+      ) tt
 
   -- ---- the phase
 
@@ -140,7 +121,7 @@ module _ (m : Memory) (g : Ghost) (i : ℕ) (pr : Process) (tick : ℕ) (b : Map
   stage₀ el c = subst (λ l. Stage m g i (pr .effect) (pr .call .top) (pr .cursor .made) (pr .call .key) l) el c
 
   phase-good : (k : Kind) (ph : Phase) → tick ≢ 0 → pr .call .kind ≡ k → pr .cursor .phase ≡ ph → k ≢ Idle → Ok m g i pr k ph
-    → Result m g i pr tick b (phaseOf ph (i + 1) tick pr m)
+      → Result m g i pr tick b (phaseOf ph (i + 1) tick pr m)
   unfolding phaseOf
   phase-good Idle ph tp ek ep nn c = absurd (nn refl)
   phase-good Get Walk tp ek ep nn c = walk-good m g i pr tick b N B (λ e. nn (sym ek ∙ e)) (c .0) (c .1)
@@ -169,6 +150,6 @@ module _ (m : Memory) (g : Ghost) (i : ℕ) (pr : Process) (tick : ℕ) (b : Map
   turn-good tp f ni =
       let nn : f .kind ≢ Idle = λ e. ni (f .kind-is ∙ e) in
       if-by (Result m g i pr tick b) (lawfulProcess pr m)
-        (λ t. subst (λ ph. Result m g i pr tick b (phaseOf ph (i + 1) tick pr m)) (sym (f .phase-is))
-          (phase-good (f .kind) (f .phase) tp (f .kind-is) (f .phase-is) nn (f .ok)))
-        (λ t. absurd (T-absurd (lawfulProcess pr m) (lawful (f .kind) (f .phase) nn (f .kind-is) (f .phase-is) (f .ok)) t))
+      (λ t. subst (λ ph. Result m g i pr tick b (phaseOf ph (i + 1) tick pr m)) (sym (f .phase-is))
+      (phase-good (f .kind) (f .phase) tp (f .kind-is) (f .phase-is) nn (f .ok)))
+      (λ t. absurd (T-absurd (lawfulProcess pr m) (lawful (f .kind) (f .phase) nn (f .kind-is) (f .phase-is) (f .ok)) t))

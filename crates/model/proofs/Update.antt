@@ -28,14 +28,19 @@ pub chain-kept : (t t′ : List ℕ) (n n′ : ℕ) → n ≤ n′ → ((i f : �
     → (vs : List Version) (i : ℕ) → Chain t n i vs → Chain t′ n′ i vs
 chain-kept t t′ n n′ le eq [] i k = k
 chain-kept t t′ n n′ le eq (v ∷ vs) i k =
-    let p = eq i 2 (k .1) (omega arith) in
-    (k .0, omega (arith, k .1), eq i 0 (k .1) (omega arith) ∙ k .2, eq i 1 (k .1) (omega arith) ∙ k .3, omega (arith, k .4),
-      rw p (chain-kept t t′ n n′ le eq vs (field t i 2) (k .5)))
+    let p = eq i 2 (k .1) (omega arith) in (
+      k .0,
+      omega (arith, k .1),
+      eq i 0 (k .1) (omega arith) ∙ k .2,
+      eq i 1 (k .1) (omega arith) ∙ k .3,
+      omega (arith, k .4),
+      rw p (chain-kept t t′ n n′ le eq vs (field t i 2) (k .5)),
+    )
 
 -- the map's put where the key's newest version is at place i
 put-head : (t : List ℕ) (n K W : ℕ) (b : Map) (k : ℕ) (v : Version) (vs : List Version) (i : ℕ) → Chain t n i vs → 1 ≤ i
     → putBy K W b k v vs ≡ (if ltb (v .timestamp) (timestamp t i) then answered b TooOld
-      else if leb W (held b) then answered b VersionsFull else answered (pushed b k v) Added)
+    else if leb W (held b) then answered b VersionsFull else answered (pushed b k v) Added)
 unfolding putBy
 put-head t n K W b k v [] i ch p = absurd (omega arith)
 put-head t n K W b k v (l ∷ ls) i ch p = rw (ch .3)
@@ -51,7 +56,7 @@ module _ (m : Memory) (g : Ghost) (call : Call) (b : Map) (N : Nodes m g) (B : B
   m′ = record {
     nodes = withNewest (m .nodes) x i;
     versions = withVersion (m .versions) i (ownVersion call) (newest (m .nodes) x);
-    counts = record { nodes = m .counts .nodes; versions = i }
+    counts = record { nodes = m .counts .nodes; versions = i };
   }
 
   abbrev b₁ : Map
@@ -69,7 +74,7 @@ module _ (m : Memory) (g : Ghost) (call : Call) (b : Map) (N : Nodes m g) (B : B
     count-is = refl;
     keys = λ y h. other-word y 0 (omega arith) (omega arith);
     tops = λ y h. other-word y 2 (omega arith) (omega arith);
-    links = λ l y h. let l6 = six l y h in other-word y (4 + l) (omega arith) (omega arith)
+    links = λ l y h. let l6 = six l y h in other-word y (4 + l) (omega arith) (omega arith);
   }
 
   pub add-frame : (s : ℕ) → Frame m m′ g g s
@@ -127,14 +132,14 @@ module _ (m : Memory) (g : Ghost) (call : Call) (b : Map) (N : Nodes m g) (B : B
       sum = omega (arith, B .sum, held-set b j (ownVersion call) lies);
       keys = λ h lt. key-at h lt ∙ sym (other-word (suc h) 0 (omega arith) (omega arith));
       places = λ h lt. by-eq h j
-        (λ e. rw (e, newest-x) (omega arith))
-        (λ ne. let q = B .places h lt in rw (newest-other h ne) (q .0, omega arith));
+          (λ e. rw (e, newest-x) (omega arith))
+          (λ ne. let q = B .places h lt in rw (newest-other h ne) (q .0, omega arith));
       chains = λ h lt. by-eq h j
-        (λ e. rw (e, newest-x, entry-x) chain-x)
-        (λ ne. rw (newest-other h ne, entry-other h ne) (old-chain h lt));
+          (λ e. rw (e, newest-x, entry-x) chain-x)
+          (λ ne. rw (newest-other h ne, entry-other h ne) (old-chain h lt));
       sorted = λ h lt. by-eq h j
-        (λ e. rw (e, entry-x) (below ((getD b j no-entry) .versions) (B .chains j (omega arith)), B .sorted j (omega arith)))
-        (λ ne. rw (entry-other h ne) (B .sorted h lt))
+          (λ e. rw (e, entry-x) (below ((getD b j no-entry) .versions) (B .chains j (omega arith)), B .sorted j (omega arith)))
+          (λ ne. rw (entry-other h ne) (B .sorted h lt));
     }
 
 module _ (m : Memory) (g : Ghost) (s : ℕ) (pr : Process) (tick : ℕ) (b : Map) (N : Nodes m g) (B : Book m b) (tick-pos : tick ≢ 0)
@@ -146,9 +151,9 @@ module _ (m : Memory) (g : Ghost) (s : ℕ) (pr : Process) (tick : ℕ) (b : Map
   c = pr .cursor
 
   -- the put answers a and writes nothing
-  pub unwritten : (a : Answer) → Settled m g s (call .top) (c .made) (call .key) (c .level) a 
-    → putIn (maxNodes m) (maxVersions m) b (call .key) (ownVersion call) ≡ answered b a
-    → Good m g s pr tick b (committed c (c .made) a) m
+  pub unwritten : (a : Answer) → Settled m g s (call .top) (c .made) (call .key) (c .level) a
+      → putIn (maxNodes m) (maxVersions m) b (call .key) (ownVersion call) ≡ answered b a
+      → Good m g s pr tick b (committed c (c .made) a) m
   unfolding processAfter
   unwritten a st e = still m g s pr tick b N B (committed c (c .made) a)
       (record { kind = Put; phase = Release; kind-is = ek; phase-is = refl; ok = (q, tick-pos, h, st) })
@@ -160,19 +165,19 @@ module _ (m : Memory) (g : Ghost) (s : ℕ) (pr : Process) (tick : ℕ) (b : Map
     entry = first-at m g b N B j (call .key) used key-x
 
     put-says : putIn (maxNodes m) (maxVersions m) b (call .key) (ownVersion call)
-      ≡ (if ltb (call .timestamp) (timestamp (m .versions) (newest (m .nodes) (suc j))) then answered b TooOld
+        ≡ (if ltb (call .timestamp) (timestamp (m .versions) (newest (m .nodes) (suc j))) then answered b TooOld
         else if leb (maxVersions m) (m .counts .versions) then answered b VersionsFull
         else answered (pushed b (call .key) (ownVersion call)) Added)
     unfolding putIn
     put-says =
         ap (putBy (maxNodes m) (maxVersions m) b (call .key) (ownVersion call)) (versions-first b (call .key) j entry)
         ∙ put-head (m .versions) (m .counts .versions) (maxNodes m) (maxVersions m) b (call .key) (ownVersion call)
-            ((getD b j no-entry) .versions) (newest (m .nodes) (suc j)) (B .chains j (omega arith)) (B .places j (omega arith) .0)
+        ((getD b j no-entry) .versions) (newest (m .nodes) (suc j)) (B .chains j (omega arith)) (B .places j (omega arith) .0)
         ∙ rw (B .sum) refl
 
     written : (space : m .counts .versions < maxVersions m) (newer : timestamp (m .versions) (newest (m .nodes) (suc j)) ≤ call .timestamp)
-      → putIn (maxNodes m) (maxVersions m) b (call .key) (ownVersion call) ≡ answered (pushed b (call .key) (ownVersion call)) Added
-      → Good m g s pr tick b (committed c (c .made) Added) (addVersion call (suc j) m)
+        → putIn (maxNodes m) (maxVersions m) b (call .key) (ownVersion call) ≡ answered (pushed b (call .key) (ownVersion call)) Added
+        → Good m g s pr tick b (committed c (c .made) Added) (addVersion call (suc j) m)
     unfolding addVersion processAfter
     written space newer e =
         let a = add-alike m g call b N B j used in
@@ -184,11 +189,16 @@ module _ (m : Memory) (g : Ghost) (s : ℕ) (pr : Process) (tick : ℕ) (b : Map
           b′ = b₁ m g call b N B j used;
           nodes = nodes-kept a N;
           book = add-book m g call b N B j used space newer;
-          fits = record { kind = Put; phase = Release; kind-is = ek; phase-is = refl;
-            ok = (placed-kept (f s .grown) q, tick-pos, held-kept (f s) (q .spot) h, tt) };
+          fits = record {
+            kind = Put;
+            phase = Release;
+            kind-is = ek;
+            phase-is = refl;
+            ok = (placed-kept (f s .grown) q, tick-pos, held-kept (f s) (q .spot) h, tt);
+          };
           frame = λ s′ ne. f s′;
           does = (ek, unset, e ∙ ap (λ z. answered z Added) (pushed-first b (call .key) j (ownVersion call) entry));
-          risen = risen-alike a (λ y u k. absurd (no-climb ea y k))
+          risen = risen-alike a (λ y u k. absurd (no-climb ea y k));
         }
 
     node-good : Result m g s pr tick b (updateNode call c (suc j) (newest (m .nodes) (suc j)) m)
@@ -200,7 +210,7 @@ module _ (m : Memory) (g : Ghost) (s : ℕ) (pr : Process) (tick : ℕ) (b : Map
         if-by R old (λ t. unwritten TooOld tt (put-says ∙ if-yes old _ _ t)) λ t.
         if-by R full (λ u. unwritten VersionsFull tt (put-says ∙ if-no old _ _ t ∙ if-yes full _ _ u)) λ u.
         written (lib.Dec.nleb→lt (maxVersions m) (m .counts .versions) u) (lib.Dec.nltb→le (call .timestamp) (timestamp (m .versions) (newest (m .nodes) (suc j))) t)
-          (put-says ∙ if-no old _ _ t ∙ if-no full _ _ u)
+        (put-says ∙ if-no old _ _ t ∙ if-no full _ _ u)
 
     pub at-good : Result m g s pr tick b (updateAt call c (suc j) m)
     unfolding updateAt

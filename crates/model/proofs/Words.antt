@@ -85,7 +85,7 @@ module _ (t : List ℕ) (i : ℕ) (v : Version) (p : ℕ) where
   length-version = length-sets t (versionWords * i) (v .value ∷ v .timestamp ∷ p ∷ [])
 
   pub version-in : (f : ℕ) → f < versionWords → versionWords * i + versionWords ≤ length t
-    → field (withVersion t i v p) i f ≡ getD (v .value ∷ v .timestamp ∷ p ∷ []) f 0
+      → field (withVersion t i v p) i f ≡ getD (v .value ∷ v .timestamp ∷ p ∷ []) f 0
   unfolding withVersion field
   version-in f hf h = sets-in (v .value ∷ v .timestamp ∷ p ∷ []) t (versionWords * i) f hf h
 

@@ -8,7 +8,7 @@ use lib.Dec.{eqb, ltb, leb}
 use lib.ListN.{length, getD, set, replicate}
 use Rattle.model.specs.Types.{Kind, Idle, Put, Get, Walk, Answer, None, Refusal, NodeLength, VersionLength, ProcessCount, EventLimit, NoProcess, BadKey, Busy, NoCall, Spent, Corrupt, Damaged, NoKey, NoVersion, Call, Cursor, Process, State, Version, Permit, Granted, Denied, Move, Refuse, Wait, Go, Note, Commit, End, Opening, OpenResult, Starting, StartResult, Stepping, Looking, Status}
 use Rattle.model.specs.Choice.{if_then_else_}
-use Rattle.model.specs.Layout.{Memory, topLevel, levels, mostProcesses, mostEvents, answers, greatestCount, key, newest, prev, versionAt, freshNodes}
+use Rattle.model.specs.Layout.{Memory, topLevel, levels, limits, key, newest, prev, versionAt, freshNodes}
 use Rattle.model.specs.Numbers.{placeOf}
 use Rattle.model.specs.State.{idleProcess, noProcess, processAt, freshState, closedState, withEvent, memoryOf, within, lawfulNodes, lawfulVersions, lawfulKey, lawfulState, lawfulStore, isIdle}
 use Rattle.model.specs.Phases.{Moved, usedVersion, turnOf}
@@ -24,8 +24,8 @@ unfoldable pub openPermit : (nodes versions : List ℕ) (processes limit : ℕ) 
 openPermit nodes versions processes limit =
     denyIf (not (lawfulNodes (length nodes))) NodeLength
     (denyIf (not (lawfulVersions (length versions))) VersionLength
-    (denyIf (not (within 1 mostProcesses processes)) ProcessCount
-    (denyIf (not (within 1 mostEvents limit)) EventLimit
+    (denyIf (not (within 1 (limits .processes) processes)) ProcessCount
+    (denyIf (not (within 1 (limits .events) limit)) EventLimit
     Granted)))
 
 -- what an opening leaves: outcome and state, and both tables
@@ -38,14 +38,16 @@ pub record Opened : Type 0 where
 unfoldable pub openBy : Permit → (nodes versions : List ℕ) (processes limit : ℕ) → Opened
 openBy (Denied r) nodes versions processes limit = record {
   result = record { outcome = Opening.Refused r; state = closedState };
-  nodes = nodes; versions = versions
+  nodes = nodes;
+  versions = versions;
 }
 openBy Granted nodes versions processes limit = record {
   result = record {
     outcome = Opening.Opened;
-    state = freshState processes limit (record { nodes = length nodes; versions = length versions })
+    state = freshState processes limit (record { nodes = length nodes; versions = length versions });
   };
-  nodes = freshNodes (length nodes); versions = replicate (length versions) 0
+  nodes = freshNodes (length nodes);
+  versions = replicate (length versions) 0;
 }
 
 unfoldable pub openOf : (nodes versions : List ℕ) (processes limit : ℕ) → Opened
@@ -81,7 +83,7 @@ begun call = record {
   call = call;
   cursor = record { phase = Walk; level = topLevel; pred = 0; made = 0 };
   effect = record { answer = None; tick = 0 };
-  preds = replicate levels 0
+  preds = replicate levels 0;
 }
 
 unfoldable pub startBy : Permit → State → ℕ → Call → StartResult
@@ -113,7 +115,7 @@ pub record Stepped : Type 0 where
 -- "Step: 10, 5, 8, 9, 11."; 10 "at a step a tally of more or fewer words than there are counts"; for 11 see the phases
 unfoldable pub stepPermit : Store → (process : ℕ) → Permit
 stepPermit w i =
-    denyIf (not (lawfulStore (w .state) (w .nodes) (w .versions) && eqb (length (w .tally)) answers)) Corrupt
+    denyIf (not (lawfulStore (w .state) (w .nodes) (w .versions) && eqb (length (w .tally)) (limits .answers))) Corrupt
     (denyIf (noSuch (w .state) i) NoProcess
     (denyIf (isIdle (processAt (w .state) i .call .kind)) NoCall
     (denyIf (spent (w .state)) Spent
@@ -125,7 +127,10 @@ processAfter tick p Refuse = p
 processAfter tick p Wait = p
 processAfter tick p (Go c) = record { call = p .call; cursor = c; effect = p .effect; preds = p .preds }
 processAfter tick p (Note c) = record {
-  call = p .call; cursor = c; effect = p .effect; preds = set (p .preds) (p .cursor .level) (p .cursor .pred)
+  call = p .call;
+  cursor = c;
+  effect = p .effect;
+  preds = set (p .preds) (p .cursor .level) (p .cursor .pred);
 }
 processAfter tick p (Commit c a) = record { call = p .call; cursor = c; effect = record { answer = a; tick = tick }; preds = p .preds }
 processAfter tick p (End a v e) = idleProcess
@@ -138,13 +143,19 @@ outcomeOf tick call (Go c) = Stepping.Moved tick
 outcomeOf tick call (Note c) = Stepping.Moved tick
 outcomeOf tick call (Commit c a) = Stepping.Moved tick
 outcomeOf tick call (End a v e) = Stepping.Finished (record {
-  kind = call .kind; answer = a; value = v .value; timestamp = v .timestamp; start = call .start; effect = e; finish = tick
+  kind = call .kind;
+  answer = a;
+  value = v .value;
+  timestamp = v .timestamp;
+  start = call .start;
+  effect = e;
+  finish = tick;
 })
 
 -- "the one count of that answer grows by one in place, and a count at 4,294,967,295 stays"
 unfoldable pub counted : List ℕ → Answer → List ℕ
 counted t a =
-    if ltb (getD t (placeOf a) 0) greatestCount
+    if ltb (getD t (placeOf a) 0) (limits .count)
     then set t (placeOf a) (getD t (placeOf a) 0 + 1)
     else t
 
@@ -160,7 +171,9 @@ tallyAfter t (End a v e) = counted t a
 abbrev pub evented : Store → ℕ → Move → Memory → Store
 evented w i v m = record {
   state = withEvent (w .state) i (m .counts) (processAfter (w .state .events + 1) (processAt (w .state) i) v);
-  nodes = m .nodes; versions = m .versions; tally = tallyAfter (w .tally) v
+  nodes = m .nodes;
+  versions = m .versions;
+  tally = tallyAfter (w .tally) v;
 }
 
 abbrev pub storeAfter : Store → ℕ → Move → Memory → Store
@@ -175,7 +188,7 @@ unfoldable pub stepBy : Permit → Store → ℕ → Moved → Stepped
 stepBy (Denied r) w i v = record { outcome = Stepping.Refused r; store = w }
 stepBy Granted w i v = record {
   outcome = outcomeOf (w .state .events + 1) (processAt (w .state) i .call) (v .move);
-  store = storeAfter w i (v .move) (v .memory)
+  store = storeAfter w i (v .move) (v .memory);
 }
 
 unfoldable pub stepOf : Store → (process : ℕ) → Stepped

@@ -8,7 +8,7 @@ use lib.Dec.{eqb, leb}
 use lib.ListN.{length, replicate}
 use Rattle.model.specs.Types.{Kind, Idle, Put, Get, Refusal, NoProcess, BadKey, Busy, NoCall, Spent, State, Permit, Granted, Denied, Finish, Starting, StartResult, Stepping, Looking}
 use Rattle.model.specs.Choice.{if_then_else_}
-use Rattle.model.specs.Layout.{answers}
+use Rattle.model.specs.Layout.{limits}
 use Rattle.model.specs.Numbers.{numberOf}
 use Rattle.model.specs.State.{lawfulKey, isIdle}
 use Rattle.model.specs.Calls.{denyIf, Opened, startPutOf, startGetOf, Store, Stepped, stepOf, lookOf}
@@ -51,18 +51,25 @@ pub record Query : Type 0 where
   pub outcome : Looking
 
 pub record History : Type 0 where
-  pub processes : ℕ              -- as the opening gave them
+  pub processes : ℕ  -- as the opening gave them
   pub limit : ℕ
-  pub log : List Action          -- the events: that of tick t stands at t - 1
-  pub invoked : ℕ → Invoked      -- the call of each process
-  pub starts : ℕ                 -- accepted starts
+  pub log : List Action  -- the events: that of tick t stands at t - 1
+  pub invoked : ℕ → Invoked  -- the call of each process
+  pub starts : ℕ  -- accepted starts
   pub completed : List Completed
   pub queries : List Query
   pub faults : ℕ
 
 abbrev pub emptyHistory : (processes limit : ℕ) → History
 emptyHistory processes limit = record {
-  processes = processes; limit = limit; log = []; invoked = λ i. noInvoked; starts = 0; completed = []; queries = []; faults = 0
+  processes = processes;
+  limit = limit;
+  log = [];
+  invoked = λ i. noInvoked;
+  starts = 0;
+  completed = [];
+  queries = [];
+  faults = 0;
 }
 
 -- "its tick is the count of events so far, itself included"
@@ -103,15 +110,27 @@ unless right = if right then 0 else 1
 -- "A refused start or step has no tick and gives the ledger nothing."
 abbrev pub sawRefusal : History → Bool → History
 sawRefusal h right = record {
-  processes = h .processes; limit = h .limit; log = h .log; invoked = h .invoked; starts = h .starts;
-  completed = h .completed; queries = h .queries; faults = h .faults + unless right
+  processes = h .processes;
+  limit = h .limit;
+  log = h .log;
+  invoked = h .invoked;
+  starts = h .starts;
+  completed = h .completed;
+  queries = h .queries;
+  faults = h .faults + unless right;
 }
 
 -- an event, that answered this tick
 abbrev pub sawEvent : History → Action → (ℕ → Invoked) → (starts : ℕ) → List Completed → Permit → (tick : ℕ) → History
 sawEvent h a invoked starts completed due tick = record {
-  processes = h .processes; limit = h .limit; log = h .log ++ (a ∷ []); invoked = invoked; starts = starts;
-  completed = completed; queries = h .queries; faults = h .faults + unless (isGranted due && eqb tick (tickOf h))
+  processes = h .processes;
+  limit = h .limit;
+  log = h .log ++ (a ∷ []);
+  invoked = invoked;
+  starts = starts;
+  completed = completed;
+  queries = h .queries;
+  faults = h .faults + unless (isGranted due && eqb tick (tickOf h));
 }
 
 unfoldable pub invokedAt : (ℕ → Invoked) → ℕ → Invoked → ℕ → Invoked
@@ -121,7 +140,7 @@ unfoldable pub sawStart : History → Action → (process : ℕ) → Operation �
 sawStart h a i op (Starting.Refused r) = sawRefusal h (isDenied (startDue h i (op .key)) r)
 sawStart h a i op (Starting.Started t) =
     sawEvent h a (invokedAt (h .invoked) i (record { operation = op; start = tickOf h })) (suc (h .starts)) (h .completed)
-      (startDue h i (op .key)) t
+    (startDue h i (op .key)) t
 
 unfoldable pub sawStep : History → (process : ℕ) → Stepping → History
 sawStep h i (Stepping.Refused r) = sawRefusal h (isDenied (stepDue h i) r)
@@ -129,12 +148,18 @@ sawStep h i (Stepping.Moved t) = sawEvent h (step i) (h .invoked) (h .starts) (h
 sawStep h i (Stepping.Waited t) = sawEvent h (step i) (h .invoked) (h .starts) (h .completed) (stepDue h i) t
 sawStep h i (Stepping.Finished f) =
     sawEvent h (step i) (invokedAt (h .invoked) i noInvoked) (h .starts)
-      (record { process = i; invoked = h .invoked i; told = f; ended = tickOf h } ∷ h .completed) (stepDue h i) (f .finish)
+    (record { process = i; invoked = h .invoked i; told = f; ended = tickOf h } ∷ h .completed) (stepDue h i) (f .finish)
 
 unfoldable pub sawLook : History → (key back : ℕ) → Looking → History
 sawLook h k back o = record {
-  processes = h .processes; limit = h .limit; log = h .log; invoked = h .invoked; starts = h .starts; completed = h .completed;
-  queries = record { key = k; back = back; events = length (h .log); outcome = o } ∷ h .queries; faults = h .faults
+  processes = h .processes;
+  limit = h .limit;
+  log = h .log;
+  invoked = h .invoked;
+  starts = h .starts;
+  completed = h .completed;
+  queries = record { key = k; back = back; events = length (h .log); outcome = o } ∷ h .queries;
+  faults = h .faults;
 }
 
 -- ---- the list
@@ -177,6 +202,6 @@ performAll r (a ∷ rest) = performAll (perform r a) rest
 -- there are counts."
 abbrev pub begin : Opened → (processes limit : ℕ) → Run
 begin o processes limit = record {
-  store = record { state = o .result .state; nodes = o .nodes; versions = o .versions; tally = replicate answers 0 };
-  history = emptyHistory processes limit
+  store = record { state = o .result .state; nodes = o .nodes; versions = o .versions; tally = replicate (limits .answers) 0 };
+  history = emptyHistory processes limit;
 }

@@ -55,7 +55,7 @@ levelFrom m l (suc fuel) seen x =
     if not (eqb (lock (m .nodes) l x) 0) then Inspecting.Fault l x
     else if not (versionsSound m l x) then Inspecting.Fault l x
     else if eqb y 0 then
-      (if ltb seen (reaching (m .nodes) l (m .counts .nodes)) then Inspecting.Fault l x else Inspecting.Sound)
+    (if ltb seen (reaching (m .nodes) l (m .counts .nodes)) then Inspecting.Fault l x else Inspecting.Sound)
     else if ltb (m .counts .nodes) y then Inspecting.Fault l x
     else if leb (key (m .nodes) y) (key (m .nodes) x) then Inspecting.Fault l x
     else if ltb (top (m .nodes) y) l then Inspecting.Fault l x

@@ -5,56 +5,33 @@ use lib.ListN.{length, getD, set, replicate}
 use lib.Seq.{sets}
 use Rattle.model.specs.Types.{Counts, Limits, Version}
 
--- ---- sizes and limits, each named once
+-- ---- sizes and limits, each said once
 
--- "The node table holds 16 words a node"
+abbrev pub limits : Limits
+limits = record {
+  nodewords = 16;  -- "The node table holds 16 words a node"
+  versionwords = 3;  -- "The reading table holds 3 words a reading"
+  top = 5;  -- "links of levels 0 to 5"
+  nodes = 1_023;  -- "so K = 1 to 1,023 trays"
+  versions = 4_095;  -- "so V = 1 to 4,095 readings"
+  processes = 8;  -- "Stations 1 to 8"
+  events = 1_000_000_000;  -- "The event limit, 1 to 1,000,000,000"
+  key = 4_294_967_294;  -- "tray 0 or 4,294,967,295" is refused
+  answers = 7;  -- "There are seven counts, one an answer."
+  count = 4_294_967_295;  -- "a count at 4,294,967,295 stays"
+}
+
 abbrev pub nodeWords : ℕ
-nodeWords = 16
+nodeWords = limits .nodewords
 
--- "The reading table holds 3 words a reading"
 abbrev pub versionWords : ℕ
-versionWords = 3
+versionWords = limits .versionwords
 
--- "links of levels 0 to 5"
 abbrev pub topLevel : ℕ
-topLevel = 5
+topLevel = limits .top
 
 abbrev pub levels : ℕ
 levels = suc topLevel
-
--- "so K = 1 to 1,023 trays"
-abbrev pub mostNodes : ℕ
-mostNodes = 1_023
-
--- "so V = 1 to 4,095 readings"
-abbrev pub mostVersions : ℕ
-mostVersions = 4_095
-
--- "Stations 1 to 8"
-abbrev pub mostProcesses : ℕ
-mostProcesses = 8
-
--- "The event limit, 1 to 1,000,000,000"
-abbrev pub mostEvents : ℕ
-mostEvents = 1_000_000_000
-
--- "tray 0 or 4,294,967,295" is refused
-abbrev pub greatestKey : ℕ
-greatestKey = 4_294_967_294
-
--- "There are seven counts, one an answer."
-abbrev pub answers : ℕ
-answers = 7
-
--- "a count at 4,294,967,295 stays"
-abbrev pub greatestCount : ℕ
-greatestCount = 4_294_967_295
-
-abbrev pub limitsOf : Limits
-limitsOf = record {
-  nodewords = nodeWords; versionwords = versionWords; top = topLevel; nodes = mostNodes; versions = mostVersions;
-  processes = mostProcesses; events = mostEvents; key = greatestKey; answers = answers
-}
 
 -- K or V of a table: what a table of so many words holds beside its unused first record
 unfoldable pub capacity : (words length : ℕ) → ℕ

@@ -9,7 +9,7 @@ use lib.Dec.{eqb}
 use lib.ListN.{length, getD}
 use Rattle.model.specs.Types.{Kind, Idle, Put, Get, Answer, None, Refusal, BadKey, State, Version, Finish, Opening, Looking, Inspecting, Status}
 use Rattle.model.specs.Choice.{if_then_else_}
-use Rattle.model.specs.Layout.{nodeWords, versionWords, answers, capacity}
+use Rattle.model.specs.Layout.{nodeWords, versionWords, limits, capacity}
 use Rattle.model.specs.Numbers.{placeOf, noVersion, versionWith}
 use Rattle.model.specs.Map.{Map, PutResult, putIn, Reply, getFrom, lookIn}
 use Rattle.model.specs.State.{lawfulKey}
@@ -113,7 +113,7 @@ pub record Right (K W : ℕ) (log : List Action) (es : List Effected) (c : Compl
   pub in-time : c .told .effect ≤ c .told .finish
   -- the map's answer just before that tick
   pub answer : replyOf K W (mapAt es (effect .before) K W) (c .invoked .operation)
-    ≡ record { answer = c .told .answer; version = record { value = c .told .value; timestamp = c .told .timestamp } }
+      ≡ record { answer = c .told .answer; version = record { value = c .told .value; timestamp = c .told .timestamp } }
 
 -- a running call: standing shows the call that was started, "and that too is the tick of a step of its station after its
 -- start"
@@ -157,14 +157,14 @@ pub record Claim (K W : ℕ) (w : Store) (h : History) : Type 0 where
   pub looks : All (Answers K W (effectsOf (w .state) h)) (h .queries)
   -- "From zero, each equals the finished calls with its answer."
   pub tally : (a : Answer) → getD (w .tally) (placeOf a) 0 ≡ answered a (h .completed)
-  pub tally-words : length (w .tally) ≡ answers
+  pub tally-words : length (w .tally) ≡ limits .answers
   -- "tallies and counts add up": accepted starts are the finished and the running calls
   pub starts : h .starts ≡ length (h .completed) + runningBelow (w .state) (h .processes)
   -- "no damage is ever reported"; nor a tick that is not the count of events, nor a refusal that was not due
   pub faults : h .faults ≡ 0
   -- "an idle store inspects sound"
   pub idle-sound : ((i : ℕ) → i < h .processes → statusOf (w .state) i ≡ Status.Idle)
-    → inspectOf (w .state) (w .nodes) (w .versions) ≡ Inspecting.Sound
+      → inspectOf (w .state) (w .nodes) (w .versions) ≡ Inspecting.Sound
 
 -- "For every list of starts, steps and looks from a fresh store", refused ones included, over tables of any contents
 abbrev pub Linearizable : Type 0
@@ -172,4 +172,4 @@ Linearizable = (nodes versions : List ℕ) (processes limit : ℕ)
     → openOf nodes versions processes limit .result .outcome ≡ Opening.Opened
     → (actions : List Action)
     → let r = performAll (begin (openOf nodes versions processes limit) processes limit) actions in
-      Claim (capacity nodeWords (length nodes)) (capacity versionWords (length versions)) (r .store) (r .history)
+    Claim (capacity nodeWords (length nodes)) (capacity versionWords (length versions)) (r .store) (r .history)

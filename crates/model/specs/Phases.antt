@@ -8,7 +8,7 @@ use lib.ListN.{length, getD}
 use Rattle.model.specs.Types.{Kind, Idle, Put, Get, Phase, Walk, Read, Seek, Lock, Check, Update, Make, Link, Release, Answer, TooOld, VersionsFull, Added, KeysFull, New, Found, None, Call, Cursor, Effect, Process, Version, Ahead, Unused, Less, Equal, Past, Move, Refuse, Wait, Go, Note, Commit, End}
 use Rattle.model.specs.Choice.{if_then_else_}
 use Rattle.model.specs.Layout.{Memory, nodeWords, versionWords, topLevel, capacity, key, newest, next, lock, timestamp, versionAt, withNewest, withNext, withLock, withNode, withVersion}
-use Rattle.model.specs.Numbers.{noVersion, versionWith}
+use Rattle.model.specs.Numbers.{placeOf, noVersion, versionWith}
 
 pub record Moved : Type 0 where
   pub move : Move
@@ -140,7 +140,7 @@ addVersion call x m =
     record {
       nodes = withNewest (m .nodes) x i;
       versions = withVersion (m .versions) i (ownVersion call) (newest (m .nodes) x);
-      counts = record { nodes = m .counts .nodes; versions = i }
+      counts = record { nodes = m .counts .nodes; versions = i };
     }
 
 -- the put on node x, whose newest version is i
@@ -169,7 +169,7 @@ addNode call c m =
     record {
       nodes = withNext (withNode (m .nodes) x (call .key) i (call .top) (next (m .nodes) 0 (c .pred))) 0 (c .pred) x;
       versions = withVersion (m .versions) i (ownVersion call) 0;
-      counts = record { nodes = x; versions = i }
+      counts = record { nodes = x; versions = i };
     }
 
 -- "make links the new node behind p at level 0"
@@ -186,7 +186,7 @@ unfoldable pub addLink : Cursor → Memory → Memory
 addLink c m = record {
   nodes = withNext (withNext (m .nodes) (c .level) (c .made) (next (m .nodes) (c .level) (c .pred))) (c .level) (c .pred) (c .made);
   versions = m .versions;
-  counts = m .counts
+  counts = m .counts;
 }
 
 -- "Link: the new node takes p's link at L; p's link becomes the new node. Go to release."
@@ -196,13 +196,7 @@ linkOf c m =
     else moved m Refuse
 
 unfoldable pub isNew : Answer → Bool
-isNew TooOld = false
-isNew VersionsFull = false
-isNew Added = false
-isNew KeysFull = false
-isNew New = true
-isNew Found = false
-isNew None = false
+isNew a = eqb (placeOf a) (placeOf New)
 
 -- "A put that was new and has L below its top: L rises by one, p becomes the node remembered there, go to seek."
 unfoldable pub rise : Call → Cursor → (preds : List ℕ) → Memory → (otherwise : Move) → Move
@@ -232,28 +226,6 @@ releaseOf call c e preds m = freed c m (released call c e preds m)
 
 -- ---- refusal 11 "at any step", and the phase
 
--- "a get outside walk and read, a put in read"
-unfoldable pub inPhase : Kind → Phase → Bool
-inPhase Idle phase = false
-inPhase Put Walk = true
-inPhase Put Read = false
-inPhase Put Seek = true
-inPhase Put Lock = true
-inPhase Put Check = true
-inPhase Put Update = true
-inPhase Put Make = true
-inPhase Put Link = true
-inPhase Put Release = true
-inPhase Get Walk = true
-inPhase Get Read = true
-inPhase Get Seek = false
-inPhase Get Lock = false
-inPhase Get Check = false
-inPhase Get Update = false
-inPhase Get Make = false
-inPhase Get Link = false
-inPhase Get Release = false
-
 -- the answers that a put gives
 unfoldable pub fromPut : Answer → Bool
 fromPut TooOld = true
@@ -264,29 +236,37 @@ fromPut New = true
 fromPut Found = false
 fromPut None = false
 
-unfoldable pub isRelease : Phase → Bool
-isRelease Walk = false
-isRelease Read = false
-isRelease Seek = false
-isRelease Lock = false
-isRelease Check = false
-isRelease Update = false
-isRelease Make = false
-isRelease Link = false
-isRelease Release = true
+abbrev pub noEffect : Effect → Bool
+noEffect e = eqb (e .tick) 0
 
--- "a call other than a put with an effect tick, a put at release or with an effect tick whose answer no put gives"
-unfoldable pub lawfulEffect : Kind → Phase → Effect → Bool
-lawfulEffect Idle phase e = eqb (e .tick) 0
-lawfulEffect Get phase e = eqb (e .tick) 0
-lawfulEffect Put phase e = not (isRelease phase || not (eqb (e .tick) 0)) || fromPut (e .answer)
+-- "a get outside walk and read, a put in read, a call other than a put with an effect tick, a put at release or with an
+-- effect tick whose answer no put gives"
+unfoldable pub lawfulAt : Kind → Phase → Effect → Bool
+lawfulAt Idle phase e = false
+lawfulAt Get Walk e = noEffect e
+lawfulAt Get Read e = noEffect e
+lawfulAt Get Seek e = false
+lawfulAt Get Lock e = false
+lawfulAt Get Check e = false
+lawfulAt Get Update e = false
+lawfulAt Get Make e = false
+lawfulAt Get Link e = false
+lawfulAt Get Release e = false
+lawfulAt Put Walk e = noEffect e || fromPut (e .answer)
+lawfulAt Put Read e = false
+lawfulAt Put Seek e = noEffect e || fromPut (e .answer)
+lawfulAt Put Lock e = noEffect e || fromPut (e .answer)
+lawfulAt Put Check e = noEffect e || fromPut (e .answer)
+lawfulAt Put Update e = noEffect e || fromPut (e .answer)
+lawfulAt Put Make e = noEffect e || fromPut (e .answer)
+lawfulAt Put Link e = noEffect e || fromPut (e .answer)
+lawfulAt Put Release e = fromPut (e .answer)
 
 -- "11 at any step a level above 5, p not in use"
 unfoldable pub lawfulProcess : Process → Memory → Bool
 lawfulProcess p m =
     leb (p .cursor .level) topLevel && leb (p .cursor .pred) (m .counts .nodes)
-    && inPhase (p .call .kind) (p .cursor .phase)
-    && lawfulEffect (p .call .kind) (p .cursor .phase) (p .effect)
+    && lawfulAt (p .call .kind) (p .cursor .phase) (p .effect)
 
 unfoldable pub phaseOf : Phase → (holder tick : ℕ) → Process → Memory → Moved
 phaseOf Walk holder tick p m = moved m (walkOf (p .call) (p .cursor) tick m)

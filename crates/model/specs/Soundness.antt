@@ -40,8 +40,8 @@ InUse m i = (1 ≤ i) × (i ≤ m .counts .versions)
 pub data ChainSound (m : Memory) : ℕ → Type 0 where
   oldest : {i : ℕ} → InUse m i → prev (m .versions) i ≡ 0 → ChainSound m i
   older : {i : ℕ} → InUse m i → prev (m .versions) i < i
-    → timestamp (m .versions) (prev (m .versions) i) ≤ timestamp (m .versions) i
-    → ChainSound m (prev (m .versions) i) → ChainSound m i
+      → timestamp (m .versions) (prev (m .versions) i) ≤ timestamp (m .versions) i
+      → ChainSound m (prev (m .versions) i) → ChainSound m i
 
 -- ---- the store
 

@@ -4,51 +4,58 @@ use mathlib.Core.Bool.{Bool, true, false, not, _&&_}
 use mathlib.Core.List.{List, [], _∷_}
 use lib.Dec.{leb, ltb, eqb}
 use lib.ListN.{length, getD, set, replicate}
-use Rattle.model.specs.Types.{Kind, Idle, Put, Get, Walk, TooOld, None, Process, Lengths, Counts, State}
-use Rattle.model.specs.Layout.{nodeWords, versionWords, levels, mostNodes, mostVersions, mostProcesses, mostEvents, greatestKey, capacity, Memory}
+use Rattle.model.specs.Types.{Kind, Idle, Put, Get, Walk, Answer, TooOld, None, Process, Lengths, Counts, State}
+use Rattle.model.specs.Layout.{nodeWords, versionWords, levels, limits, capacity, Memory}
 
--- "(before it, none and 0)"; what document 01 does not name of an idle station is 0
-abbrev pub idleProcess : Process
-idleProcess = record {
+-- a process without a call; what document 01 does not name of it is 0
+abbrev pub emptyProcess : Answer → (preds : List ℕ) → Process
+emptyProcess a preds = record {
   call = record { kind = Idle; key = 0; value = 0; timestamp = 0; top = 0; start = 0 };
   cursor = record { phase = Walk; level = 0; pred = 0; made = 0 };
-  effect = record { answer = None; tick = 0 };
-  preds = replicate levels 0
+  effect = record { answer = a; tick = 0 };
+  preds = preds;
 }
+
+-- "(before it, none and 0)"
+abbrev pub idleProcess : Process
+idleProcess = emptyProcess None (replicate levels 0)
 
 -- what an index past the array's end would read; no call reads there
 abbrev pub noProcess : Process
-noProcess = record {
-  call = record { kind = Idle; key = 0; value = 0; timestamp = 0; top = 0; start = 0 };
-  cursor = record { phase = Walk; level = 0; pred = 0; made = 0 };
-  effect = record { answer = TooOld; tick = 0 };
-  preds = []
-}
+noProcess = emptyProcess TooOld []
 
 abbrev pub processAt : State → ℕ → Process
 processAt s i = getD (s .process) i noProcess
 
-abbrev pub freshState : (processes limit : ℕ) → Lengths → State
-freshState processes limit lengths = record {
-  opened = true; processes = processes; limit = limit; events = 0; lengths = lengths;
+-- a state without events, nodes, versions and calls
+abbrev pub emptyState : (opened : Bool) (processes limit : ℕ) → Lengths → State
+emptyState opened processes limit lengths = record {
+  opened = opened;
+  processes = processes;
+  limit = limit;
+  events = 0;
+  lengths = lengths;
   counts = record { nodes = 0; versions = 0 };
-  process = replicate mostProcesses idleProcess
+  process = replicate (limits .processes) idleProcess;
 }
+
+abbrev pub freshState : (processes limit : ℕ) → Lengths → State
+freshState processes limit lengths = emptyState true processes limit lengths
 
 -- "He gets a closed state."
 abbrev pub closedState : State
-closedState = record {
-  opened = false; processes = 0; limit = 0; events = 0; lengths = record { nodes = 0; versions = 0 };
-  counts = record { nodes = 0; versions = 0 };
-  process = replicate mostProcesses idleProcess
-}
+closedState = emptyState false 0 0 (record { nodes = 0; versions = 0 })
 
 -- one event more: the counts in use and the process that it leaves
 abbrev pub withEvent : State → ℕ → Counts → Process → State
 withEvent s i counts p = record {
-  opened = s .opened; processes = s .processes; limit = s .limit; events = s .events + 1; lengths = s .lengths;
+  opened = s .opened;
+  processes = s .processes;
+  limit = s .limit;
+  events = s .events + 1;
+  lengths = s .lengths;
   counts = counts;
-  process = set (s .process) i p
+  process = set (s .process) i p;
 }
 
 abbrev pub memoryOf : State → (nodes versions : List ℕ) → Memory
@@ -64,20 +71,20 @@ unfoldable pub lawfulLength : (words most length : ℕ) → Bool
 lawfulLength words most n = within (2 * words) (words * suc most) n && eqb (n % words) 0
 
 abbrev pub lawfulNodes : ℕ → Bool
-lawfulNodes n = lawfulLength nodeWords mostNodes n
+lawfulNodes n = lawfulLength nodeWords (limits .nodes) n
 
 abbrev pub lawfulVersions : ℕ → Bool
-lawfulVersions n = lawfulLength versionWords mostVersions n
+lawfulVersions n = lawfulLength versionWords (limits .versions) n
 
 -- "6 tray 0 or 4,294,967,295"
 abbrev pub lawfulKey : ℕ → Bool
-lawfulKey k = within 1 greatestKey k
+lawfulKey k = within 1 (limits .key) k
 
 -- "10 closed state, or its stations, limit, counts in use or table lengths outside the limits above [..], or events
 -- above the limit": the part that reads the state alone
 unfoldable pub lawfulState : State → Bool
 lawfulState s =
-    s .opened && within 1 mostProcesses (s .processes) && within 1 mostEvents (s .limit) && leb (s .events) (s .limit)
+    s .opened && within 1 (limits .processes) (s .processes) && within 1 (limits .events) (s .limit) && leb (s .events) (s .limit)
     && lawfulNodes (s .lengths .nodes) && lawfulVersions (s .lengths .versions)
     && leb (s .counts .nodes) (capacity nodeWords (s .lengths .nodes))
     && leb (s .counts .versions) (capacity versionWords (s .lengths .versions))

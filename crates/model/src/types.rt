@@ -1,6 +1,6 @@
 // The state of the store and the outcome of each call, by value.
 ghost use mathlib.Core.Path.{_≡_};
-ghost use Rattle.model.specs.Layout.{limitsOf};
+ghost use Rattle.model.specs.Layout.{limits};
 ghost use Rattle.model.specs.State.{idleProcess, freshState, closedState};
 
 // What a process was asked for; `Idle` where it has no call.
@@ -12,14 +12,14 @@ pub enum Kind {
 
 // Where a call stands. The comment names the procedure of figure 1 that the phase is a part of.
 pub enum Phase {
-    Walk,    // findAll
-    Read,    // get
-    Seek,    // findLock: the search
-    Lock,    // findLock: the lock
-    Check,   // findLock: the second look, under the lock
-    Update,  // update
-    Make,    // createAndLink
-    Link,    // link
+    Walk, // findAll
+    Read, // get
+    Seek, // findLock: the search
+    Lock, // findLock: the lock
+    Check, // findLock: the second look, under the lock
+    Update, // update
+    Make, // createAndLink
+    Link, // link
     Release, // insert, insertAll: unlock
 }
 
@@ -116,20 +116,20 @@ pub struct Version {
 
 // Where a node's link leads, against a key.
 pub enum Ahead {
-    Unused,     // to a node that is not in use
-    Less(u32),  // to this node, with a smaller key
+    Unused, // to a node that is not in use
+    Less(u32), // to this node, with a smaller key
     Equal(u32), // to this node, with the key
-    Past,       // to the end, or to a greater key
+    Past, // to the end, or to a greater key
 }
 
 // What a phase asks of the process.
 pub enum Move {
-    Refuse,                     // damage
-    Wait,                       // the lock is held
-    Go(Cursor),                 // the cursor moves
-    Note(Cursor),               // the same, and the predecessor is remembered at its level
-    Commit(Cursor, Answer),     // the put takes effect with this answer
-    End(Answer, Version, u32),  // the call ends with this answer, version and effect tick
+    Refuse, // damage
+    Wait, // the lock is held
+    Go(Cursor), // the cursor moves
+    Note(Cursor), // the same, and the predecessor is remembered at its level
+    Commit(Cursor, Answer), // the put takes effect with this answer
+    End(Answer, Version, u32), // the call ends with this answer, version and effect tick
 }
 
 // The call may go on, or is refused.
@@ -213,6 +213,7 @@ pub struct Limits {
     pub events: u32,
     pub key: u32,
     pub answers: u32,
+    pub count: u32,
 }
 
 impl Process {
@@ -220,30 +221,58 @@ impl Process {
     pub fn idle() -> Self
         ensures { λ r. ⌜ r ≡ idleProcess ⌝ }
     {
-        let call = Call { kind: Kind::Idle, key: 0, value: 0, timestamp: 0, top: 0, start: 0 };
-        let cursor = Cursor { phase: Phase::Walk, level: 0, pred: 0, made: 0 };
-        let effect = Effect { answer: Answer::None, tick: 0 };
+        let call = Call {
+            kind: Kind::Idle,
+            key: 0,
+            value: 0,
+            timestamp: 0,
+            top: 0,
+            start: 0,
+        };
+        let cursor = Cursor {
+            phase: Phase::Walk,
+            level: 0,
+            pred: 0,
+            made: 0,
+        };
+        let effect = Effect {
+            answer: Answer::None,
+            tick: 0,
+        };
         let preds = [0; 6];
-        Self { call, cursor, effect, preds }
+        Self {
+            call,
+            cursor,
+            effect,
+            preds,
+        }
     }
 }
 
 impl State {
     // Words of a node and of a version.
     pub const NODE_WORDS: u32 = 16;
+
     pub const VERSION_WORDS: u32 = 3;
     // The highest level.
     pub const TOP: u32 = 5;
     // At most so many nodes, versions, processes, events and answers, and the greatest key.
     pub const NODES: u32 = 1023;
+
     pub const VERSIONS: u32 = 4095;
+
     pub const PROCESSES: u32 = 8;
+
     pub const EVENTS: u32 = 1000000000;
+
     pub const KEY: u32 = 4294967294;
+
     pub const ANSWERS: u32 = 7;
+    // The greatest count of the tally: it stays there.
+    pub const COUNT: u32 = 4294967295;
 
     pub fn limits() -> Limits
-        ensures { λ r. ⌜ r ≡ limitsOf ⌝ }
+        ensures { λ r. ⌜ r ≡ limits ⌝ }
     {
         Limits {
             nodewords: Self::NODE_WORDS,
@@ -255,6 +284,7 @@ impl State {
             events: Self::EVENTS,
             key: Self::KEY,
             answers: Self::ANSWERS,
+            count: Self::COUNT,
         }
     }
 
@@ -264,8 +294,19 @@ impl State {
     {
         let idle = Process::idle();
         let process = [idle; 8];
-        let counts = Counts { nodes: 0, versions: 0 };
-        Self { opened: true, processes, limit, events: 0, lengths, counts, process }
+        let counts = Counts {
+            nodes: 0,
+            versions: 0,
+        };
+        Self {
+            opened: true,
+            processes,
+            limit,
+            events: 0,
+            lengths,
+            counts,
+            process,
+        }
     }
 
     // The state that a refused opening gives.
@@ -274,8 +315,22 @@ impl State {
     {
         let idle = Process::idle();
         let process = [idle; 8];
-        let lengths = Lengths { nodes: 0, versions: 0 };
-        let counts = Counts { nodes: 0, versions: 0 };
-        Self { opened: false, processes: 0, limit: 0, events: 0, lengths, counts, process }
+        let lengths = Lengths {
+            nodes: 0,
+            versions: 0,
+        };
+        let counts = Counts {
+            nodes: 0,
+            versions: 0,
+        };
+        Self {
+            opened: false,
+            processes: 0,
+            limit: 0,
+            events: 0,
+            lengths,
+            counts,
+            process,
+        }
     }
 }
