@@ -19,6 +19,7 @@ use Rattle.model.specs.Linearizability.{fedBy, replyOf, Effected, comple
 use Rattle.model.proofs.Tests.{if-by, if-eq, if-yes, if-no, by-eq, by-le, eq→eqb, ne→neqb}
 use Rattle.model.proofs.Effects.{Took, nothing, took, fed, played, played-snoc, all-map, nothing≢took, Entered, Settles, told-reply}
 use Rattle.model.proofs.Live.{slot, Core, Track, Any, EndedAt, Pairs, busyBelow, Hist, Live, status-is}
+use Rattle.model.proofs.Laws.{top-at-most}
 use Rattle.model.proofs.Started.{start-live}
 use Rattle.model.proofs.Stepped.{step-live}
 use Rattle.model.proofs.Looked.{look-live}
@@ -295,15 +296,11 @@ module _ {K W : ℕ} {w : Store} {h : History} (v : Live K W w h) where
 
 -- ---- the list
 
-top-small : (draw : ℕ) → topOf draw ≤ 5
-unfolding topOf
-top-small draw = Rattle.model.proofs.Tests.if-lt (λ (n : ℕ). n ≤ 5) (lib.Count.trailingZeros 16 draw) 5 (λ h. omega arith) (λ h. omega arith)
-
 perform-live : {K W : ℕ} (r : Run) (a : Action) → Live K W (r .store) (r .history) → Live K W (perform r a .store) (perform r a .history)
 unfolding perform startPutOf startGetOf
 perform-live r (startPut i key value timestamp draw) l = start-live l i (startPut i key value timestamp draw)
     (record { kind = Put; key = key; value = value; timestamp = timestamp; top = topOf draw; start = r .store .state .events + 1 })
-    refl (top-small draw) (λ q. let z : _≡_ {A = ℕ} 0 1 = cc in omega arith)
+    refl (top-at-most draw) (λ q. let z : _≡_ {A = ℕ} 0 1 = cc in omega arith)
 perform-live r (startGet i key) l = start-live l i (startGet i key)
     (record { kind = Get; key = key; value = 0; timestamp = 0; top = 0; start = r .store .state .events + 1 })
     refl (omega arith) (λ q. let z : _≡_ {A = ℕ} 0 1 = cc in omega arith)

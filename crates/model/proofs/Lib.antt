@@ -1,3 +1,5 @@
+pub mod Bench
+pub mod Laws
 pub mod Tests
 pub mod Words
 pub mod Level

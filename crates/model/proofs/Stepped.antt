@@ -21,6 +21,7 @@ use Rattle.model.specs.Phases.{Moved, moved, ownVersion, maxNodes, maxVe
 use Rattle.model.specs.Calls.{Store, Stepped, stepPermit, processAfter, outcomeOf, counted, tallyAfter, evented, storeAfter, stepBy, stepOf}
 use Rattle.model.specs.History.{Action, step, Operation, Invoked, noInvoked, Completed, History, tickOf, stepDue, isGranted, unless, invokedAt, sawStep}
 use Rattle.model.specs.Linearizability.{fedBy, replyBy, replyOf, All, answered}
+use Rattle.model.proofs.Laws.{place-below}
 use Rattle.model.proofs.Tests.{if-by, if-lt, if-eq, by-eq, is-true, eq→eqb}
 use Rattle.model.proofs.Invariant.{Ghost, Fits, Climbs}
 use Rattle.model.proofs.Frame.{fits-kept}
@@ -32,16 +33,6 @@ use Rattle.model.proofs.Live.{memory, slot, Core, invokedOf, Track, Lef
 use Rattle.model.proofs.Started.{due-denied, no-fault, granted≢denied}
 
 -- ---- the tally
-
-place-below : (a : Answer) → placeOf a < 7
-unfolding placeOf
-place-below TooOld = omega arith
-place-below VersionsFull = omega arith
-place-below Added = omega arith
-place-below KeysFull = omega arith
-place-below New = omega arith
-place-below Found = omega arith
-place-below None = omega arith
 
 length-tally : (t : List ℕ) (v : Move) → length (tallyAfter t v) ≡ length t
 unfolding tallyAfter counted
