@@ -78,47 +78,48 @@ risen-same A keep = risen-alike A (λ x h c no-more. absurd (no-more (keep x c))
 
 -- ---- a lock is written
 
-module _ (m : Memory) (g : Ghost) (N : Nodes m g) (c : Cursor) (v : ℕ) (l6 : c .level < 6) (used : c .pred ≤ m .counts .nodes) where
-  abbrev m′ : Memory
-  m′ = withHolder m c v
+module _ (m : Memory) (g : Ghost) (N : Nodes m g) (c : Cursor) (v : ℕ) (l6 : c .level < 6) (used : c .pred ≤ m .counts .nodes)
+  where
+    abbrev m′ : Memory
+    m′ = withHolder m c v
 
-  six : {j x : ℕ} → In m g j x → j < 6
-  six {j} {x} i = omega (arith, i .1, N .high x (i .0))
+    six : {j x : ℕ} → In m g j x → j < 6
+    six {j} {x} i = omega (arith, i .1, N .high x (i .0))
 
-  pub lock-field : (x f : ℕ) → f < 16 → f ≢ 10 + c .level → word (m′ .nodes) x f ≡ word (m .nodes) x f
-  lock-field x f f16 ne = word-field (m .nodes) (c .pred) x (10 + c .level) f v (omega arith) f16 ne
+    pub lock-field : (x f : ℕ) → f < 16 → f ≢ 10 + c .level → word (m′ .nodes) x f ≡ word (m .nodes) x f
+    lock-field x f f16 ne = word-field (m .nodes) (c .pred) x (10 + c .level) f v (omega arith) f16 ne
 
-  pub lock-alike : Alike m m′ g
-  lock-alike = record {
-    length-is = length-word (m .nodes) (c .pred) (10 + c .level) v;
-    count-is = refl;
-    keys = λ x h. lock-field x 0 (omega arith) (omega arith);
-    tops = λ x h. lock-field x 2 (omega arith) (omega arith);
-    links = λ j x i. let j6 = six i in lock-field x (4 + j) (omega arith) (omega arith);
-  }
+    pub lock-alike : Alike m m′ g
+    lock-alike = record {
+      length-is = length-word (m .nodes) (c .pred) (10 + c .level) v;
+      count-is = refl;
+      keys = λ x h. lock-field x 0 (omega arith) (omega arith);
+      tops = λ x h. lock-field x 2 (omega arith) (omega arith);
+      links = λ j x i. let j6 = six i in lock-field x (4 + j) (omega arith) (omega arith);
+    }
 
-  pub lock-set : lock (m′ .nodes) (c .level) (c .pred) ≡ v
-  lock-set = word-same (m .nodes) (c .pred) (10 + c .level) v (omega arith) (omega (arith, N .size, N .room))
+    pub lock-set : lock (m′ .nodes) (c .level) (c .pred) ≡ v
+    lock-set = word-same (m .nodes) (c .pred) (10 + c .level) v (omega arith) (omega (arith, N .size, N .room))
 
-  pub lock-book : {b : Map} → Book m b → Book m′ b
-  lock-book B = record {
-    size = B .size;
-    room = B .room;
-    count = B .count;
-    sum = B .sum;
-    keys = λ i h. rw (lock-field (suc i) 0 (omega arith) (omega arith)) (B .keys i h);
-    places = λ i h. rw (lock-field (suc i) 1 (omega arith) (omega arith)) (B .places i h);
-    chains = λ i h. rw (lock-field (suc i) 1 (omega arith) (omega arith)) (B .chains i h);
-    sorted = B .sorted;
-  }
+    pub lock-book : {b : Map} → Book m b → Book m′ b
+    lock-book B = record {
+      size = B .size;
+      room = B .room;
+      count = B .count;
+      sum = B .sum;
+      keys = λ i h. rw (lock-field (suc i) 0 (omega arith) (omega arith)) (B .keys i h);
+      places = λ i h. rw (lock-field (suc i) 1 (omega arith) (omega arith)) (B .places i h);
+      chains = λ i h. rw (lock-field (suc i) 1 (omega arith) (omega arith)) (B .chains i h);
+      sorted = B .sorted;
+    }
 
-  pub lock-frame : (i : ℕ) → lock (m .nodes) (c .level) (c .pred) ≢ suc i → Frame m m′ g g i
-  lock-frame i ne = frame-alike lock-alike (λ j x h e. let j6 = six h in
-      word-other (m .nodes) (c .pred) x (10 + c .level) (10 + j) v (omega arith) (omega arith)
-      (λ ex ej. ne (sym (same j x ex (cut ej)) ∙ e)) ∙ e)
-    where
-      cut : {j : ℕ} → 10 + j ≡ 10 + c .level → j ≡ c .level
-      cut q = omega arith
+    pub lock-frame : (i : ℕ) → lock (m .nodes) (c .level) (c .pred) ≢ suc i → Frame m m′ g g i
+    lock-frame i ne = frame-alike lock-alike (λ j x h e. let j6 = six h in
+        word-other (m .nodes) (c .pred) x (10 + c .level) (10 + j) v (omega arith) (omega arith)
+        (λ ex ej. ne (sym (same j x ex (cut ej)) ∙ e)) ∙ e)
+      where
+        cut : {j : ℕ} → 10 + j ≡ 10 + c .level → j ≡ c .level
+        cut q = omega arith
 
-      same : (j x : ℕ) → x ≡ c .pred → j ≡ c .level → lock (m .nodes) j x ≡ lock (m .nodes) (c .level) (c .pred)
-      same j x ex ej = rw (ex, ej) refl
+        same : (j x : ℕ) → x ≡ c .pred → j ≡ c .level → lock (m .nodes) j x ≡ lock (m .nodes) (c .level) (c .pred)
+        same j x ex ej = rw (ex, ej) refl

@@ -7,7 +7,7 @@ use mathlib.Core.Path.{_≡_, refl, sym, ap, _∙_, subst}
 use native.Mathlib.Omega.{arith}
 use lib.Dec.{T, eqb}
 use lib.ListN.{length, getD, take, List·getD-eq-default}
-use lib.Seq.{take-suc}
+use lib.Seq.{take-suc, take-all}
 use Rattle.model.specs.Types.{Kind, Idle, Put, Get, Process, State, Looking, BadKey, Status}
 use Rattle.model.specs.Choice.{if_then_else_}
 use Rattle.model.specs.Layout.{nodeWords, versionWords, capacity}
@@ -15,7 +15,7 @@ use Rattle.model.specs.Map.{Map, lookIn}
 use Rattle.model.specs.State.{noProcess, lawfulKey, isIdle}
 use Rattle.model.specs.Calls.{Store, startPutOf, startGetOf, standing, statusOf, topOf, openOf}
 use Rattle.model.specs.History.{Action, startPut, startGet, step, look, Operation, Invoked, Completed, Query, History, Run, perform, performAll, begin}
-use Rattle.model.specs.Linearizability.{fedBy, replyOf, Effected, completedEffects, shownEffect, runningEffects, effectsOf, fedAt, mapAt, All, Distinct, Timely, Right, Shows, Answers, running, runningBelow, Claim, Linearizable}
+use Rattle.model.specs.Linearizability.{fedBy, replyOf, Effected, completedEffects, shownEffect, runningEffects, effectsOf, fedAt, mapAt, All, Distinct, Timely, Right, Shows, Answers, running, runningBelow, countsOf, Claim, Linearizable}
 use Rattle.model.proofs.Tests.{if-by, if-eq, if-yes, if-no, by-eq, by-le, eq→eqb, ne→neqb}
 use Rattle.model.proofs.Effects.{Took, nothing, took, fed, played, played-snoc, all-map, nothing≢took, Entered, Settles, told-reply}
 use Rattle.model.proofs.Live.{slot, Core, Track, Any, EndedAt, Pairs, busyBelow, Hist, Live, status-is}
@@ -63,7 +63,8 @@ fed-is (e ∷ es) n i c K W b a y = if-eq (λ (z : Map). z ≡ fedBy (c .operati
     rest q (inl z) = absurd (q z)
     rest q (inr z) = z
 
-fed-none : (es : List Effected) (n : ℕ) (K W : ℕ) (b : Map) → All (λ (e : Effected). e .tick ≡ suc n → ⊥) es → fedAt es (suc n) K W b ≡ b
+fed-none : (es : List Effected) (n : ℕ) (K W : ℕ) (b : Map) → All (λ (e : Effected). e .tick ≡ suc n → ⊥) es
+    → fedAt es (suc n) K W b ≡ b
 unfolding fedAt
 fed-none [] n K W b a = refl
 fed-none (e ∷ es) n K W b a = if-no (eqb (e .tick) (suc n)) _ _ (ne→neqb (e .tick) (suc n) (a .0)) ∙ fed-none es n K W b (a .1)
@@ -72,7 +73,8 @@ fed-none (e ∷ es) n K W b a = if-no (eqb (e .tick) (suc n)) _ _ (ne→neqb (e 
 
 -- of a process in order
 shown : (pr : Process) (i : ℕ) (c : Invoked) → (pr .call .kind ≡ Idle → pr .effect .tick ≡ 0)
-    → (P : List Effected → Type 0) → (pr .effect .tick ≡ 0 → P []) → (pr .effect .tick ≢ 0 → P (record { process = i; invoked = c; tick = pr .effect .tick } ∷ []))
+    → (P : List Effected → Type 0) → (pr .effect .tick ≡ 0 → P [])
+    → (pr .effect .tick ≢ 0 → P (record { process = i; invoked = c; tick = pr .effect .tick } ∷ []))
     → P (shownEffect (standing (pr .call .kind) pr) i c)
 shown pr i c rest P none one = by (pr .call .kind) rest
   where
@@ -81,7 +83,8 @@ shown pr i c rest P none one = by (pr .call .kind) rest
     by Put r = unfold standing shownEffect in (if-eq P (pr .effect .tick) 0 none one)
     by Get r = unfold standing shownEffect in (if-eq P (pr .effect .tick) 0 none one)
 
-shows : (log : List Action) (i : ℕ) (c : Invoked) (pr : Process) → c .operation .kind ≡ pr .call .kind → c .start ≡ pr .call .start
+shows : (log : List Action) (i : ℕ) (c : Invoked) (pr : Process) → c .operation .kind ≡ pr .call .kind
+    → c .start ≡ pr .call .start
     → (pr .effect .tick ≢ 0 → Timely log i c (pr .effect .tick)) → Shows log i c (standing (pr .call .kind) pr)
 shows log i c pr ek es t = by (pr .call .kind) ek
   where
@@ -129,7 +132,8 @@ module _ {K W : ℕ} {w : Store} {h : History} (v : Live K W w h) where
       (shown (slot w n) n (h .invoked n) (k .track n .resting) (λ (l : List Effected). All P l) (λ e. tt) (λ ne. (f n (omega arith) ne, tt)))
       (all-running P n (omega arith) (λ i lt. f i (omega arith))))
 
-  any-running : (n i t : ℕ) → n ≤ w .state .processes → i < n → tickAt i ≡ suc t → Any (AtTick (suc t)) (runningEffects (w .state) (h .invoked) n)
+  any-running : (n i t : ℕ) → n ≤ w .state .processes → i < n → tickAt i ≡ suc t
+      → Any (AtTick (suc t)) (runningEffects (w .state) (h .invoked) n)
   unfolding runningEffects
   any-running zero i t le lt e = absurd (omega arith)
   any-running (suc n) i t le lt e = rw (status-is (v .core) n (omega arith)) (by-eq i n
@@ -164,8 +168,10 @@ module _ {K W : ℕ} {w : Store} {h : History} (v : Live K W w h) where
 
       go : Any (EndedAt n i c) (h .completed) ⊎ ((h .invoked i ≡ c) × (tickAt i ≡ suc n))
           → Any (AtTick (suc n)) (completedEffects (h .completed) ++ runningEffects (w .state) (h .invoked) (h .processes))
-      go (inl a) = any-left (AtTick (suc n)) (completedEffects (h .completed)) (runningEffects (w .state) (h .invoked) (h .processes)) (any-ended n i c (h .completed) a)
-      go (inr r) = any-right (AtTick (suc n)) (completedEffects (h .completed)) (runningEffects (w .state) (h .invoked) (h .processes))
+      go (inl a) =
+          any-left (AtTick (suc n)) (completedEffects (h .completed)) (runningEffects (w .state) (h .invoked) (h .processes)) (any-ended n i c (h .completed) a)
+      go (inr r) =
+          any-right (AtTick (suc n)) (completedEffects (h .completed)) (runningEffects (w .state) (h .invoked) (h .processes))
           (any-running (h .processes) i n processes-le (below i (r .1)) (r .1))
 
   same-index : {a n : ℕ} → a ≡ suc n → (j : ℕ) → a ≡ suc j → n ≡ j
@@ -173,13 +179,15 @@ module _ {K W : ℕ} {w : Store} {h : History} (v : Live K W w h) where
 
   -- the entry's place in the ghost list is that of its tick
   at-index : (n : ℕ) (e : Effected) (s : Stands e) → e .tick ≡ suc n → getD (v .eff) n nothing ≡ took (e .process) (e .invoked)
-  at-index n e s q = subst (λ j. getD (v .eff) j nothing ≡ took (e .process) (e .invoked)) (sym (same-index q (s .0) (s .1))) (s .3)
+  at-index n e s q =
+      subst (λ j. getD (v .eff) j nothing ≡ took (e .process) (e .invoked)) (sym (same-index q (s .0) (s .1))) (s .3)
 
   fed-at : (n : ℕ) (b : Map) → fedAt es (suc n) K W b ≡ fed K W b (getD (v .eff) n nothing)
   fed-at n b = go (getD (v .eff) n nothing) refl
     where
       go : (x : Took) → getD (v .eff) n nothing ≡ x → fedAt es (suc n) K W b ≡ fed K W b x
-      go nothing e = fed-none es n K W b (all-map (λ f s q. nothing≢took (sym e ∙ at-index n f s q)) es stands) ∙ (unfold fed in refl)
+      go nothing e =
+          fed-none es n K W b (all-map (λ f s q. nothing≢took (sym e ∙ at-index n f s q)) es stands) ∙ (unfold fed in refl)
       go (took i c) e = fed-is es n i c K W b (all-map (λ f s q. sym (at-index n f s q) ∙ e) es stands) (complete n i c e)
 
   -- the map fed tick by tick is the ghost list played
@@ -201,7 +209,8 @@ module _ {K W : ℕ} {w : Store} {h : History} (v : Live K W w h) where
         finish = q .finish;
         effect = record { before = e .before; tick-is = e .tick-is; own-step = e .own-step; after-start = e .after-start };
         in-time = omega (arith, q .in-time, q .finish);
-        answer = ap (λ (b : Map). replyOf K W b (d .invoked .operation)) (map-is (e .before) (omega (arith, e .within))) ∙ e .replies;
+        answer =
+            ap (λ (b : Map). replyOf K W b (d .invoked .operation)) (map-is (e .before) (omega (arith, e .within))) ∙ e .replies;
       }
 
   -- ---- no two effects at one tick
@@ -253,7 +262,8 @@ module _ {K W : ℕ} {w : Store} {h : History} (v : Live K W w h) where
           let y = clash here (record { process = i; invoked = h .invoked i; tick = tickAt i }) (ed .before, ed .tick-is, ed .within, ed .took-is) (entered i ne) q in
           omega (arith, r i (invoked-busy i ne) .0 (sym y), e .after-start, a .0 .in-time)
 
-      older : (ds : List Completed) → All (Settles K W (h .log) (v .eff)) ds → All (λ (e : Completed). e .process ≡ d .process → e .ended < d .invoked .start) ds
+      older : (ds : List Completed) → All (Settles K W (h .log) (v .eff)) ds
+          → All (λ (e : Completed). e .process ≡ d .process → e .ended < d .invoked .start) ds
           → All (λ (f : Effected). f .tick ≢ d .told .effect) (completedEffects ds)
       older [] s t = unfold completedEffects in tt
       older (e ∷ ds) s t = unfold completedEffects in (
@@ -270,11 +280,19 @@ module _ {K W : ℕ} {w : Store} {h : History} (v : Live K W w h) where
   runs-below : (n : ℕ) → n ≤ w .state .processes → runningBelow (w .state) n ≡ busyBelow (w .state .process) n
   unfolding runningBelow busyBelow
   runs-below zero le = refl
-  runs-below (suc n) le = rw (status-is (v .core) n (omega arith), shown-runs (slot w n .call .kind) (slot w n), runs-below n (omega arith))
+  runs-below (suc n) le =
+      rw (status-is (v .core) n (omega arith), shown-runs (slot w n .call .kind) (slot w n), runs-below n (omega arith))
 
   timely : (i : ℕ) → tickAt i ≢ 0 → Timely (h .log) i (h .invoked i) (tickAt i)
   timely i ne = let e = k .track i .entered ne in
       record { before = e .before; tick-is = e .tick-is; own-step = e .own-step; after-start = e .after-start }
+
+  counts-are : w .state .counts ≡ countsOf (mapAt es (length (h .log)) K W)
+  counts-are =
+      let whole : take (length (h .log)) (v .eff) ≡ v .eff = take-all (length (h .log)) (v .eff) (omega (arith, k .ticks, k .one-each)) in
+      let m : mapAt es (length (h .log)) K W ≡ v .b =
+      map-is (length (h .log)) (omega (arith, k .ticks, k .one-each)) ∙ ap (λ l. played K W [] l) whole ∙ sym (k .book-is) in
+      rw (m, v .core .book .count, ← v .core .book .sum)
 
   pub claimed : Claim K W w h
   unfolding effectsOf
@@ -285,18 +303,22 @@ module _ {K W : ℕ} {w : Store} {h : History} (v : Live K W w h) where
     standing = λ i lt. rw (status-is (v .core) i (omega (arith, k .processes-is)))
         (shows (h .log) i (h .invoked i) (slot w i) (ap (λ (c : Invoked). c .operation .kind) (k .track i .same)) (ap (λ (c : Invoked). c .start) (k .track i .same)) (timely i));
     distinct = done-apart (h .completed) (k .done) (k .pairs) (k .past);
-    looks = all-map (λ q a. a .1 ∙ ap (λ (b : Map). if lawfulKey (q .key) then lookIn b (q .key) (q .back) else Looking.Refused BadKey) (sym (map-is (q .events) (a .0))))
+    looks =
+        all-map (λ q a. a .1 ∙ ap (λ (b : Map). if lawfulKey (q .key) then lookIn b (q .key) (q .back) else Looking.Refused BadKey) (sym (map-is (q .events) (a .0))))
         (h .queries) (k .looks);
     tally = k .tally;
     tally-words = v .core .tally;
-    starts = k .counted ∙ ap (λ n. length (h .completed) + n) (ap (busyBelow (w .state .process)) (sym (k .processes-is)) ∙ sym (runs-below (h .processes) processes-le));
+    counts = (unfold effectsOf in counts-are);
+    starts =
+        k .counted ∙ ap (λ n. length (h .completed) + n) (ap (busyBelow (w .state .process)) (sym (k .processes-is)) ∙ sym (runs-below (h .processes) processes-le));
     faults = k .faults;
     idle-sound = λ f. idle-sound (v .core) (λ i lt. f i (omega (arith, k .processes-is)));
   }
 
 -- ---- the list
 
-perform-live : {K W : ℕ} (r : Run) (a : Action) → Live K W (r .store) (r .history) → Live K W (perform r a .store) (perform r a .history)
+perform-live : {K W : ℕ} (r : Run) (a : Action) → Live K W (r .store) (r .history)
+    → Live K W (perform r a .store) (perform r a .history)
 unfolding perform startPutOf startGetOf
 perform-live r (startPut i key value timestamp draw) l = start-live l i (startPut i key value timestamp draw)
     (record { kind = Put; key = key; value = value; timestamp = timestamp; top = topOf draw; start = r .store .state .events + 1 })

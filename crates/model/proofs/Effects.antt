@@ -71,7 +71,8 @@ LookedAt K W eff q = (q .events ≤ length eff) × (q .outcome ≡
 -- ---- one event more
 
 module _ (K W : ℕ) (log : List Action) (eff : List Took) (a : Action) (x : Took) (even : length eff ≡ length log) where
-  pub entered-grow : {i t : ℕ} {c : Invoked} {r : Reply} → Entered K W log eff i c t r → Entered K W (log ++ (a ∷ [])) (eff ++ (x ∷ [])) i c t r
+  pub entered-grow : {i t : ℕ} {c : Invoked} {r : Reply} → Entered K W log eff i c t r
+      → Entered K W (log ++ (a ∷ [])) (eff ++ (x ∷ [])) i c t r
   entered-grow {i} {t} {c} {r} e = record {
     before = e .before;
     tick-is = e .tick-is;
@@ -79,7 +80,8 @@ module _ (K W : ℕ) (log : List Action) (eff : List Took) (a : Action) (x : Too
     after-start = e .after-start;
     own-step = List·getD-append log (a ∷ []) (look 0 0) (e .before) (omega (arith, e .within)) ∙ e .own-step;
     took-is = List·getD-append eff (x ∷ []) nothing (e .before) (e .within) ∙ e .took-is;
-    replies = ap (λ l. replyOf K W (played K W [] l) (c .operation)) (take-append-le (e .before) eff (x ∷ []) (omega (arith, e .within))) ∙ e .replies;
+    replies =
+        ap (λ l. replyOf K W (played K W [] l) (c .operation)) (take-append-le (e .before) eff (x ∷ []) (omega (arith, e .within))) ∙ e .replies;
   }
 
   pub settles-grow : (d : Completed) → Settles K W log eff d → Settles K W (log ++ (a ∷ [])) (eff ++ (x ∷ [])) d
@@ -97,7 +99,8 @@ module _ (K W : ℕ) (log : List Action) (eff : List Took) (a : Action) (x : Too
 
   -- the effect of this very event
   pub entered-now : (i : ℕ) (c : Invoked) (r : Reply) → a ≡ step i → x ≡ took i c → c .start ≤ length log
-      → replyOf K W (played K W [] eff) (c .operation) ≡ r → Entered K W (log ++ (a ∷ [])) (eff ++ (x ∷ [])) i c (suc (length log)) r
+      → replyOf K W (played K W [] eff) (c .operation) ≡ r
+      → Entered K W (log ++ (a ∷ [])) (eff ++ (x ∷ [])) i c (suc (length log)) r
   entered-now i c r ea ex st h = record {
     before = length log;
     tick-is = refl;

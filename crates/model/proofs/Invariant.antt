@@ -56,7 +56,8 @@ pub record Book (m : Memory) (b : Map) : Type 0 where
   pub count : length b ≡ m .counts .nodes
   pub sum : m .counts .versions ≡ held b
   pub keys : (i : ℕ) → i < m .counts .nodes → (getD b i no-entry) .key ≡ key (m .nodes) (suc i)
-  pub places : (i : ℕ) → i < m .counts .nodes → (1 ≤ newest (m .nodes) (suc i)) × (newest (m .nodes) (suc i) ≤ m .counts .versions)
+  pub places : (i : ℕ) → i < m .counts .nodes
+      → (1 ≤ newest (m .nodes) (suc i)) × (newest (m .nodes) (suc i) ≤ m .counts .versions)
   pub chains : (i : ℕ) → i < m .counts .nodes
       → Chain (m .versions) (m .counts .versions) (newest (m .nodes) (suc i)) ((getD b i no-entry) .versions)
   pub sorted : (i : ℕ) → i < m .counts .nodes → Sorted ((getD b i no-entry) .versions)

@@ -9,7 +9,7 @@ use native.Mathlib.Omega.{arith}
 use borrow.Author.Tests.{leb-true, leb-false, ltb-true, eqb-false, not-false}
 use lib.Count.{trailingZeros}
 use lib.Dec.{leb, ltb, eqb, lit<}
-use lib.ListN.{getD}
+use lib.ListN.{length, getD}
 use lib.Seq.{set-getD}
 use Rattle.model.specs.Types.{Answer, TooOld, VersionsFull, Added, KeysFull, New, Found, None}
 use Rattle.model.specs.Types.{Refusal, NodeLength, VersionLength, ProcessCount, EventLimit, NoProcess, BadKey}
@@ -22,7 +22,7 @@ use Rattle.model.specs.Types.{Opening, Starting, Stepping, Looking}
 use Rattle.model.specs.Choice.{if_then_else_}
 use Rattle.model.specs.Layout.{limits, topLevel, levels, Memory, newest, prev}
 use Rattle.model.specs.Numbers.{numberOf, placeOf}
-use Rattle.model.specs.State.{closedState, memoryOf}
+use Rattle.model.specs.State.{closedState, memoryOf, within, lawfulNodes, lawfulVersions}
 use Rattle.model.specs.Phases.{Moved, moved, usedVersion, lockOf, checkBy, checkOf, updateNode, updateAt}
 use Rattle.model.specs.Phases.{updateOf, makeOf, linkOf, rise, released, freed, releaseOf, phaseOf, turnOf}
 use Rattle.model.specs.Calls.{denyIf, openPermit, Opened, openBy, openOf, topOf}
@@ -143,6 +143,13 @@ pub open-refused : (nodes versions : List ℕ) (processes limit : ℕ) (r : Refu
 unfolding openOf
 open-refused nodes versions processes limit =
     open-refused-by (openPermit nodes versions processes limit) nodes versions processes limit
+
+-- an opening within the limits is accepted, whatever the tables hold
+pub open-accepted : (nodes versions : List ℕ) (processes limit : ℕ) → lawfulNodes (length nodes) ≡ true
+    → lawfulVersions (length versions) ≡ true → within 1 (limits .processes) processes ≡ true
+    → within 1 (limits .events) limit ≡ true → openOf nodes versions processes limit .result .outcome ≡ Opening.Opened
+unfolding openOf openPermit openBy
+open-accepted nodes versions processes limit a b c d = rw (a, b, c, d)
 
 -- ---- starts
 

@@ -58,7 +58,8 @@ pub record Insert (In In′ : ℕ → Type 0) (key key′ next next′ : ℕ →
   pub others : (x : ℕ) → In x → x ≢ p → next′ x ≡ next x
   pub inj : (x : ℕ) → In x → key x ≡ key p → x ≡ p
 
-module _ {In In′ : ℕ → Type 0} {key key′ next next′ : ℕ → ℕ} {p y : ℕ} (L : Level In key next) (I : Insert In In′ key key′ next next′ p y) where
+module _ {In In′ : ℕ → Type 0} {key key′ next next′ : ℕ → ℕ} {p y : ℕ} (L : Level In key next)
+    (I : Insert In In′ key key′ next next′ p y) where
   step-new : next′ y ≢ 0 → In′ (next′ y) × (key′ y < key′ (next′ y))
   step-new ne =
       let e = I .front in

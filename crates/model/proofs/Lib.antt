@@ -1,4 +1,6 @@
 pub mod Bench
+pub mod Slips
+pub mod Starred
 pub mod Laws
 pub mod Tests
 pub mod Words

@@ -189,7 +189,8 @@ module _ (m : Memory) (g : Ghost) (s lv p x k tp : ℕ) (N : Nodes m g) (a : At 
       (λ q. absurd (free (subst (λ w. Climbs pr′ w) (sym q) k)))
       (λ ne. high-old z ne ∙ old h (λ c. ne (sym (c .made) ∙ ex)) ∙ ap suc (sym (tops z)))
 
-module _ (m : Memory) (g : Ghost) (s : ℕ) (pr : Process) (tick : ℕ) (b : Map) (N : Nodes m g) (B : Book m b) (ek : pr .call .kind ≡ Put)
+module _ (m : Memory) (g : Ghost) (s : ℕ) (pr : Process) (tick : ℕ) (b : Map) (N : Nodes m g) (B : Book m b)
+    (ek : pr .call .kind ≡ Put)
     (q : PlacedOf m g pr) (h : HoldsOf m s pr) (cl : ClearOf m pr) where
   abbrev c : Cursor
   c = pr .cursor
@@ -200,7 +201,8 @@ module _ (m : Memory) (g : Ghost) (s : ℕ) (pr : Process) (tick : ℕ) (b : Map
   climbing zero pos st = absurd (omega arith)
   climbing (suc l) pos st = st
 
-  linked : (pr .effect .tick ≢ 0) → (pr .effect .answer ≡ New) → (c .level ≤ pr .call .top) → (f : Made m g s (c .made) (pr .call .key) (pr .call .top) (c .level))
+  linked : (pr .effect .tick ≢ 0) → (pr .effect .answer ≡ New) → (c .level ≤ pr .call .top)
+      → (f : Made m g s (c .made) (pr .call .key) (pr .call .top) (c .level))
       → Good m g s pr tick b (Go (at c Release (c .level) (c .pred))) (addLink c m)
   unfolding addLink processAfter
   linked ne ea le f = record {

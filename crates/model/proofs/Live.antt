@@ -18,7 +18,7 @@ use Rattle.model.specs.State.{noProcess, processAt, memoryOf, withEvent,
 use Rattle.model.specs.Phases.{ownVersion, maxNodes, maxVersions}
 use Rattle.model.specs.Calls.{Store, standing, statusPermit, statusBy, statusOf}
 use Rattle.model.specs.History.{Action, Operation, Invoked, noInvoked, Completed, Query, History, tickOf, invokedAt, sawRefusal}
-use Rattle.model.specs.Linearizability.{fedBy, All, answered}
+use Rattle.model.specs.Linearizability.{fedBy, All, answeredBy}
 use Rattle.model.proofs.Tests.{is-true, T-absurd, by-eq, by-test, if-yes, if-no, eq→eqb, ne→neqb}
 use Rattle.model.proofs.Invariant.{Ghost, Nodes, Book, Fits, Climbs}
 use Rattle.model.proofs.Locks.{Named}
@@ -59,7 +59,8 @@ pub record Track (K W : ℕ) (log : List Action) (eff : List Took) (i : ℕ) (c 
   pub same : c ≡ invokedOf pr
   pub resting : pr .call .kind ≡ Idle → pr .effect .tick ≡ 0
   pub begun : pr .call .start ≤ length log
-  pub entered : pr .effect .tick ≢ 0 → Entered K W log eff i c (pr .effect .tick) (record { answer = pr .effect .answer; version = ownVersion (pr .call) })
+  pub entered : pr .effect .tick ≢ 0
+      → Entered K W log eff i c (pr .effect .tick) (record { answer = pr .effect .answer; version = ownVersion (pr .call) })
 
 abbrev pub Any : {A : Type 0} → (A → Type 0) → List A → Type 0
 Any P [] = ⊥
@@ -97,7 +98,7 @@ pub record Hist (K W : ℕ) (w : Store) (h : History) (b : Map) (eff : List Took
   pub track : (i : ℕ) → Track K W (h .log) eff i (h .invoked i) (slot w i)
   pub nothing-else : (n i : ℕ) (c : Invoked) → getD eff n nothing ≡ took i c → Left h w n i c
   pub looks : All (LookedAt K W eff) (h .queries)
-  pub tally : (a : Answer) → getD (w .tally) (placeOf a) 0 ≡ answered a (h .completed)
+  pub tally : (a : Answer) → getD (w .tally) (placeOf a) 0 ≡ answeredBy a (h .completed)
   pub counted : h .starts ≡ length (h .completed) + busyBelow (w .state .process) (w .state .processes)
   pub few : h .starts ≤ length (h .log)
   pub faults : h .faults ≡ 0
@@ -192,7 +193,8 @@ busy-set l i (suc n) pr h h′ = by-eq i n
   where
     beyond-set : (k : ℕ) → k ≤ i → busyBelow (set l i pr) k ≡ busyBelow l k
     beyond-set zero le = refl
-    beyond-set (suc k) le = rw (getD-set-other l i k pr noProcess (omega arith)) (ap (λ z. (if isIdle (getD l k noProcess .call .kind) then 0 else 1) + z) (beyond-set k (omega arith)))
+    beyond-set (suc k) le =
+        rw (getD-set-other l i k pr noProcess (omega arith)) (ap (λ z. (if isIdle (getD l k noProcess .call .kind) then 0 else 1) + z) (beyond-set k (omega arith)))
 
 -- ---- an event that is refused, and one that is not
 
@@ -226,7 +228,8 @@ refused-live {K} {W} {w} {h} right t l =
     }
 
 -- an event of process i: a call x that took effect or none, and what it leaves of store and history
-module _ (K W : ℕ) (w : Store) (h : History) (b : Map) (eff : List Took) (k : Hist K W w h b eff) (eight : length (w .state .process) ≡ 8)
+module _ (K W : ℕ) (w : Store) (h : History) (b : Map) (eff : List Took) (k : Hist K W w h b eff)
+    (eight : length (w .state .process) ≡ 8)
     (i : ℕ) (i8 : i < 8) (a : Action) (x : Took) (m : Memory) (pr : Process) (tly : List ℕ)
     (invoked : ℕ → Invoked) (starts : ℕ) (completed : List Completed) (faults : ℕ) (b′ : Map) where
   abbrev pub w′ : Store
@@ -253,7 +256,8 @@ module _ (K W : ℕ) (w : Store) (h : History) (b : Map) (eff : List Took) (k : 
   pub slot-other : (j : ℕ) → j ≢ i → slot w′ j ≡ slot w j
   slot-other j ne = getD-set-other (w .state .process) i j pr noProcess ne
 
-  track-grow : {j : ℕ} {c : Invoked} {q : Process} → Track K W (h .log) eff j c q → Track K W (h .log ++ (a ∷ [])) (eff ++ (x ∷ [])) j c q
+  track-grow : {j : ℕ} {c : Invoked} {q : Process} → Track K W (h .log) eff j c q
+      → Track K W (h .log ++ (a ∷ [])) (eff ++ (x ∷ [])) j c q
   track-grow t = record {
     same = t .same;
     resting = t .resting;
@@ -275,7 +279,7 @@ module _ (K W : ℕ) (w : Store) (h : History) (b : Map) (eff : List Took) (k : 
     pub kept : (n j : ℕ) (c : Invoked) → Any (EndedAt n j c) (h .completed) → Any (EndedAt n j c) completed
     pub old : (n : ℕ) (c : Invoked) → h .invoked i ≡ c → slot w i .effect .tick ≡ suc n → Left h′ w′ n i c
     pub now : (n j : ℕ) (c : Invoked) → n ≡ length (h .log) → x ≡ took j c → Left h′ w′ n j c
-    pub tally : (q : Answer) → getD tly (placeOf q) 0 ≡ answered q completed
+    pub tally : (q : Answer) → getD tly (placeOf q) 0 ≡ answeredBy q completed
     pub counted : starts ≡ length completed + busyBelow (set (w .state .process) i pr) (w .state .processes)
     pub few : starts ≤ suc (length (h .log))
     pub no-faults : faults ≡ 0

@@ -53,7 +53,8 @@ module _ (m : Memory) (g : Ghost) (i : ℕ) (pr : Process) (tick : ℕ) (b : Map
           phase = Check;
           kind-is = ek;
           phase-is = refl;
-          ok = (placed-kept (f i .grown) q, stage-of-kept (f i .grown) pr s, lock-set m g N c (i + 1) l6 (q .spot .used) ∙ add-one i);
+          ok =
+              (placed-kept (f i .grown) q, stage-of-kept (f i .grown) pr s, lock-set m g N c (i + 1) l6 (q .spot .used) ∙ add-one i);
         };
         frame = λ j ne. f j;
         does = (refl, refl);
@@ -122,7 +123,8 @@ module _ (m : Memory) (g : Ghost) (i : ℕ) (pr : Process) (tick : ℕ) (b : Map
       let e : z ≡ c .made = N .inj z (c .made) (n .0) (f .used) (r .1 .key-is ∙ sym (f .key-is)) in
       omega (arith, n .1, ap (g .high) e, f .height-is)
 
-  to-phase : (ph : Phase) → Fits m g i (record { call = call; cursor = at c ph (c .level) (c .pred); effect = pr .effect; preds = pr .preds })
+  to-phase : (ph : Phase)
+      → Fits m g i (record { call = call; cursor = at c ph (c .level) (c .pred); effect = pr .effect; preds = pr .preds })
       → Good m g i pr tick b (Go (at c ph (c .level) (c .pred))) m
   unfolding processAfter
   to-phase ph f = goes m g i pr tick b N B (at c ph (c .level) (c .pred)) refl f
@@ -131,11 +133,13 @@ module _ (m : Memory) (g : Ghost) (i : ℕ) (pr : Process) (tick : ℕ) (b : Map
   abbrev Goes : (bottom : Phase) → Phase → Type 0
   Goes bottom ph = Good m g i pr tick b (Go (at c ph (c .level) (c .pred))) m
 
-  stage-up : (l : ℕ) → c .level ≡ l → l ≢ 0 → StageOf m g i pr → (j : ℕ) × (l ≡ suc j) × Stage m g i (pr .effect) (call .top) (c .made) (call .key) (suc j)
+  stage-up : (l : ℕ) → c .level ≡ l → l ≢ 0 → StageOf m g i pr
+      → (j : ℕ) × (l ≡ suc j) × Stage m g i (pr .effect) (call .top) (c .made) (call .key) (suc j)
   stage-up zero el ne s = absurd (ne refl)
   stage-up (suc j) el ne s = (j, refl, subst (λ l. Stage m g i (pr .effect) (call .top) (c .made) (call .key) l) el s)
 
-  check-by-good : (a : Ahead) → Related m (c .level) (c .pred) (call .key) a → call .kind ≡ Put → PlacedOf m g pr → StageOf m g i pr → HoldsOf m i pr
+  check-by-good : (a : Ahead) → Related m (c .level) (c .pred) (call .key) a → call .kind ≡ Put → PlacedOf m g pr
+      → StageOf m g i pr → HoldsOf m i pr
       → R (checkBy c m a)
   unfolding checkBy
   check-by-good Unused r ek q s h = absurd (not-unused m g b N B (q .spot) r)
@@ -149,19 +153,22 @@ module _ (m : Memory) (g : Ghost) (i : ℕ) (pr : Process) (tick : ℕ) (b : Map
 
   pub check-good : call .kind ≡ Put → PlacedOf m g pr → StageOf m g i pr → HoldsOf m i pr → R (checkOf call c m)
   unfolding checkOf
-  check-good ek q s h = check-by-good (ahead m (c .level) (c .pred) (call .key)) (related m (c .level) (c .pred) (call .key)) ek q s h
+  check-good ek q s h =
+      check-by-good (ahead m (c .level) (c .pred) (call .key)) (related m (c .level) (c .pred) (call .key)) ek q s h
 
   -- ---- release
 
   -- the call ends with the answer it had
-  end-good : (a : Answer) → a ≡ pr .effect .answer → versionWith a (ownVersion call) noVersion ≡ ownVersion call → call .kind ≡ Put → pr .effect .tick ≢ 0
+  end-good : (a : Answer) → a ≡ pr .effect .answer → versionWith a (ownVersion call) noVersion ≡ ownVersion call
+      → call .kind ≡ Put → pr .effect .tick ≢ 0
       → PlacedOf m g pr → HoldsOf m i pr → ((x : ℕ) → Climbs pr x → g .high x ≡ suc (top (m .nodes) x))
       → Good m g i pr tick b (ended call a noVersion (pr .effect .tick)) free
   unfolding processAfter
   end-good a ea ev ek ne q h give = free-good (ended call a noVersion (pr .effect .tick)) q h (idle-fits free g i)
       (refl, inr (ek, ne, refl, ea, ev)) (λ x u k no-more. give x k)
 
-  rise-good : (a : Answer) → a ≡ New → pr .effect .answer ≡ a → call .kind ≡ Put → pr .effect .tick ≢ 0 → PlacedOf m g pr → HoldsOf m i pr
+  rise-good : (a : Answer) → a ≡ New → pr .effect .answer ≡ a → call .kind ≡ Put → pr .effect .tick ≢ 0 → PlacedOf m g pr
+      → HoldsOf m i pr
       → (c .level ≤ call .top) × Made m g i (c .made) (call .key) (call .top) (suc (c .level))
       → R (freed c m (rise call c (pr .preds) m (ended call New noVersion (pr .effect .tick))))
   unfolding rise freed
@@ -177,19 +184,23 @@ module _ (m : Memory) (g : Ghost) (i : ℕ) (pr : Process) (tick : ℕ) (b : Map
       (λ u. absurd (omega (arith, a .used)))
       (λ u. seek-again (c .level + 1) up ek q h a (rw (add-one (c .level)) (ne, ea ∙ en, lt, s .1)))
 
-  other-good : (a : Answer) → a ≢ New → pr .effect .answer ≡ a → versionWith a (ownVersion call) noVersion ≡ ownVersion call → call .kind ≡ Put
+  other-good : (a : Answer) → a ≢ New → pr .effect .answer ≡ a → versionWith a (ownVersion call) noVersion ≡ ownVersion call
+      → call .kind ≡ Put
       → pr .effect .tick ≢ 0 → PlacedOf m g pr → HoldsOf m i pr → R (freed c m (ended call a noVersion (pr .effect .tick)))
   unfolding freed
   other-good a nn ea ev ek ne q h = end-good a (sym ea) ev ek ne q h (λ x k. absurd (nn (sym ea ∙ k .answer)))
 
-  release-by-good : (a : Answer) → pr .effect .answer ≡ a → call .kind ≡ Put → pr .effect .tick ≢ 0 → PlacedOf m g pr → HoldsOf m i pr
+  release-by-good : (a : Answer) → pr .effect .answer ≡ a → call .kind ≡ Put → pr .effect .tick ≢ 0 → PlacedOf m g pr
+      → HoldsOf m i pr
       → Settled m g i (call .top) (c .made) (call .key) (c .level) a
       → R (freed c m (released call c (record { answer = a; tick = pr .effect .tick }) (pr .preds) m))
   unfolding released isNew placeOf
   release-by-good TooOld ea ek ne q h s = other-good TooOld (λ e. let z : _≡_ {A = ℕ} 0 1 = cc in omega arith) ea refl ek ne q h
-  release-by-good VersionsFull ea ek ne q h s = other-good VersionsFull (λ e. let z : _≡_ {A = ℕ} 0 1 = cc in omega arith) ea refl ek ne q h
+  release-by-good VersionsFull ea ek ne q h s =
+      other-good VersionsFull (λ e. let z : _≡_ {A = ℕ} 0 1 = cc in omega arith) ea refl ek ne q h
   release-by-good Added ea ek ne q h s = other-good Added (λ e. let z : _≡_ {A = ℕ} 0 1 = cc in omega arith) ea refl ek ne q h
-  release-by-good KeysFull ea ek ne q h s = other-good KeysFull (λ e. let z : _≡_ {A = ℕ} 0 1 = cc in omega arith) ea refl ek ne q h
+  release-by-good KeysFull ea ek ne q h s =
+      other-good KeysFull (λ e. let z : _≡_ {A = ℕ} 0 1 = cc in omega arith) ea refl ek ne q h
   release-by-good New ea ek ne q h s = rise-good New refl ea ek ne q h s
   release-by-good Found ea ek ne q h s = absurd s
   release-by-good None ea ek ne q h s = absurd s

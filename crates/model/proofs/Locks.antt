@@ -42,7 +42,8 @@ abbrev pub Locked : Memory → ℕ → (tick : ℕ) → Process → Moved → Ty
 Locked m i tick pr r = (l x j : ℕ) → l < 6 → x ≤ r .memory .counts .nodes → lock (r .memory .nodes) l x ≡ suc j
     → (j ≢ i → (x ≤ m .counts .nodes) × (lock (m .nodes) l x ≡ suc j)) × (j ≡ i → HoldsAt (processAfter tick pr (r .move)) l x)
 
-module _ (m : Memory) (i : ℕ) (tick : ℕ) (pr : Process) (size : length (m .nodes) ≡ 16 * maxNodes m + 16) (room : m .counts .nodes ≤ maxNodes m)
+module _ (m : Memory) (i : ℕ) (tick : ℕ) (pr : Process) (size : length (m .nodes) ≡ 16 * maxNodes m + 16)
+    (room : m .counts .nodes ≤ maxNodes m)
     (nm : Named m i pr) (lv6 : pr .cursor .level < 6) (used : pr .cursor .pred ≤ m .counts .nodes) (nn : pr .call .kind ≢ Idle) where
   abbrev c : Cursor
   c = pr .cursor
@@ -109,7 +110,8 @@ module _ (m : Memory) (i : ℕ) (tick : ℕ) (pr : Process) (size : length (m .n
       (λ l x h. record { kind = h .kind; phase = hp; level = h .level; node = h .node })
 
   checked-locked : (bottom : Phase) → Holding bottom → L (moved m (checked c bottom))
-  checked-locked bottom hb = if-by (λ ph. L (moved m (Go (at c ph (c .level) (c .pred))))) (eqb (c .level) 0) (λ t. on-phase bottom hb) (λ t. on-phase Link tt)
+  checked-locked bottom hb =
+      if-by (λ ph. L (moved m (Go (at c ph (c .level) (c .pred))))) (eqb (c .level) 0) (λ t. on-phase bottom hb) (λ t. on-phase Link tt)
 
   check-locked : Holding (c .phase) → (a : Ahead) → L (checkBy c m a)
   unfolding checkBy
@@ -123,7 +125,8 @@ module _ (m : Memory) (i : ℕ) (tick : ℕ) (pr : Process) (size : length (m .n
       → ((l x : ℕ) → l < 6 → x ≤ m′ .counts .nodes → (j : ℕ) → lock (m′ .nodes) l x ≡ suc j → (x ≤ m .counts .nodes) × (lock (m .nodes) l x ≡ suc j))
       → L (moved m′ (committed c made a))
   unfolding processAfter
-  commits made a m′ back = steady (committed c made a) m′ back (λ l x h. record { kind = h .kind; phase = tt; level = h .level; node = h .node })
+  commits made a m′ back =
+      steady (committed c made a) m′ back (λ l x h. record { kind = h .kind; phase = tt; level = h .level; node = h .node })
 
   unwritten : (made : ℕ) (a : Answer) → L (moved m (committed c made a))
   unwritten made a = commits made a m (λ l x h6 hx j e. (hx, e))
@@ -149,9 +152,11 @@ module _ (m : Memory) (i : ℕ) (tick : ℕ) (pr : Process) (size : length (m .n
       x = m .counts .nodes + 1
 
       t₁ : List ℕ
-      t₁ = Rattle.model.specs.Layout.withNode (m .nodes) x (pr .call .key) (m .counts .versions + 1) (pr .call .top) (next (m .nodes) 0 (c .pred))
+      t₁ =
+          Rattle.model.specs.Layout.withNode (m .nodes) x (pr .call .key) (m .counts .versions + 1) (pr .call .top) (next (m .nodes) 0 (c .pred))
 
-      back : m .counts .nodes < maxNodes m → (l y : ℕ) → l < 6 → y ≤ x → (j : ℕ) → word (withWord t₁ (c .pred) 4 x) y (10 + l) ≡ suc j
+      back : m .counts .nodes < maxNodes m → (l y : ℕ) → l < 6 → y ≤ x → (j : ℕ)
+          → word (withWord t₁ (c .pred) 4 x) y (10 + l) ≡ suc j
           → (y ≤ m .counts .nodes) × (lock (m .nodes) l y ≡ suc j)
       back rm l y h6 hy j e =
           let q = word-field t₁ (c .pred) y 4 (10 + l) x (omega arith) (omega arith) (omega arith) in
@@ -204,4 +209,5 @@ module _ (m : Memory) (i : ℕ) (tick : ℕ) (pr : Process) (size : length (m .n
   -- any step, whether refused or not
   pub step-locked : L (turnOf (i + 1) tick pr m)
   unfolding turnOf processAfter
-  step-locked = if-by L (lawfulProcess pr m) (λ t. phase-locked (c .phase) refl) (λ t. steady Refuse m (λ l x h6 hx j e. (hx, e)) (λ l x k. k))
+  step-locked =
+      if-by L (lawfulProcess pr m) (λ t. phase-locked (c .phase) refl) (λ t. steady Refuse m (λ l x h6 hx j e. (hx, e)) (λ l x k. k))

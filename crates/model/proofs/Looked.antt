@@ -41,7 +41,8 @@ not-le : (a c : ℕ) → c < a → T (not (leb a c))
 not-le a c lt = by-test (leb a c) (λ t. absurd (omega (arith, leb→le a c t))) (λ t. t)
 
 -- back along the chain is back in the list
-back-right : (t : List ℕ) (n back i : ℕ) (v : Version) (vs : List Version) → Chain t n i (v ∷ vs) → backFrom t back i ≡ backIn (v ∷ vs) back
+back-right : (t : List ℕ) (n back i : ℕ) (v : Version) (vs : List Version) → Chain t n i (v ∷ vs)
+    → backFrom t back i ≡ backIn (v ∷ vs) back
 unfolding backFrom backIn
 back-right t n zero i v vs h = rw (h .2, h .3)
 back-right t n (suc back) i v [] h =
@@ -52,8 +53,9 @@ back-right t n (suc back) i v (u ∷ us) h =
     ∙ back-right t n back (prev t i) u us (h .5)
 
 module _ (m : Memory) (g : Ghost) (b : Map) (N : Nodes m g) (B : Book m b) (k back : ℕ) where
-  by-chain : (i : ℕ) (vs : List Version) → Chain (m .versions) (m .counts .versions) i vs → 1 ≤ i → backFrom (m .versions) back i ≡ Seq.lookBy vs back
-  unfolding Seq.lookBy
+  by-chain : (i : ℕ) (vs : List Version) → Chain (m .versions) (m .counts .versions) i vs → 1 ≤ i
+      → backFrom (m .versions) back i ≡ Seq.lookList vs back
+  unfolding Seq.lookList
   by-chain i [] h p = absurd (omega arith)
   by-chain i (v ∷ vs) h p = back-right (m .versions) (m .counts .versions) back i v vs h
 
@@ -65,15 +67,15 @@ module _ (m : Memory) (g : Ghost) (b : Map) (N : Nodes m g) (B : Book m b) (k ba
       if-no (eqb (suc j) 0) _ _ (ne→neqb (suc j) 0 (omega arith))
       ∙ if-no (not (usedVersion m x)) _ _ (not-not (usedVersion m x) (within-T (q .0) (q .1)))
       ∙ by-chain x ((getD b j no-entry) .versions) (B .chains j le) (q .0)
-      ∙ ap (λ vs. Seq.lookBy vs back) (sym (versions-first b k j (first-at m g b N B j k le e)))
+      ∙ ap (λ vs. Seq.lookList vs back) (sym (versions-first b k j (first-at m g b N B j k le e)))
 
   node-right : (x : ℕ) → 1 ≤ x → x ≤ m .counts .nodes → key (m .nodes) x ≡ k → lookNode m back x ≡ lookIn b k back
   node-right zero p le e = absurd (omega arith)
   node-right (suc j) p le e = at-node j le e
 
   none-right : ((z : ℕ) → z ≤ m .counts .nodes → key (m .nodes) z ≢ k) → lookNode m back 0 ≡ lookIn b k back
-  unfolding lookNode lookIn Seq.lookBy
-  none-right f = ap (λ vs. Seq.lookBy vs back) (sym (no-node m g b N B k f))
+  unfolding lookNode lookIn Seq.lookList
+  none-right f = ap (λ vs. Seq.lookList vs back) (sym (no-node m g b N B k f))
 
   look-right : 1 ≤ k → lookNode m back (findFrom (m .nodes) k (m .counts .nodes) 1) ≡ lookIn b k back
   look-right low = find-by (m .nodes) k (λ x. lookNode m back x ≡ lookIn b k back) (m .counts .nodes) 1

@@ -109,7 +109,8 @@ module _ (m : Memory) (g : Ghost) (s : ℕ) (call : Call) (p : ℕ) (b : Map) (N
     high-x = changed-same (g .high) x 1 x refl
 
     unheld : (z : ℕ) → z ≤ m .counts .nodes → key (m .nodes) z ≢ call .key
-    unheld z h = absent (N .levels 0) p (call .key) (a .used, a .up) (a .low) (λ ne. clear ne .1) z (h, omega (arith, N .high z h))
+    unheld z h =
+        absent (N .levels 0) p (call .key) (a .used, a .up) (a .low) (λ ne. clear ne .1) z (h, omega (arith, N .high z h))
 
     -- a node in use is an old one or the new one
     old-or-new : {P : Type 0} (z : ℕ) → z ≤ x → (z ≤ m .counts .nodes → P) → (z ≡ x → P) → P
@@ -133,11 +134,13 @@ module _ (m : Memory) (g : Ghost) (s : ℕ) (call : Call) (p : ℕ) (b : Map) (N
     })
 
     level-up : (l : ℕ) → Level (In m′ g′ (suc l)) (key (m′ .nodes)) (next (m′ .nodes) (suc l))
-    level-up l = kept (N .levels (suc l)) down (λ z h. (omega (arith, h .0), rw (high-old z (h .0)) (h .1))) (λ z h. keys z (h .0))
+    level-up l =
+        kept (N .levels (suc l)) down (λ z h. (omega (arith, h .0), rw (high-old z (h .0)) (h .1))) (λ z h. keys z (h .0))
         (λ z h. let l6 : suc l < 6 = omega (arith, h .1, N .high z (h .0)) in old-word z (4 + suc l) (h .0) (omega arith) (λ q. omega arith))
       where
         down : (z : ℕ) → In m′ g′ (suc l) z → In m g (suc l) z
-        down z h = old-or-new z (h .0) (λ u. (u, rw (high-old z u) at (h .1))) (λ q. absurd (omega (arith, h .1, ap (g′ .high) q, high-x)))
+        down z h =
+            old-or-new z (h .0) (λ u. (u, rw (high-old z u) at (h .1))) (λ q. absurd (omega (arith, h .1, ap (g′ .high) q, high-x)))
 
     levels : (l : ℕ) → Level (In m′ g′ l) (key (m′ .nodes)) (next (m′ .nodes) l)
     levels zero = level-0
@@ -171,7 +174,8 @@ module _ (m : Memory) (g : Ghost) (s : ℕ) (call : Call) (p : ℕ) (b : Map) (N
     }
 
     pub locks-old : (l z : ℕ) → In m g l z → lock (m′ .nodes) l z ≡ lock (m .nodes) l z
-    locks-old l z h = let l6 : l < 6 = omega (arith, h .1, N .high z (h .0)) in old-word z (10 + l) (h .0) (omega arith) (λ q. omega arith)
+    locks-old l z h =
+        let l6 : l < 6 = omega (arith, h .1, N .high z (h .0)) in old-word z (10 + l) (h .0) (omega arith) (λ q. omega arith)
 
     pub make-frame : (j : ℕ) → j ≢ s → Frame m m′ g g′ j
     make-frame j ne = record {
@@ -239,8 +243,10 @@ module _ (m : Memory) (g : Ghost) (s : ℕ) (call : Call) (p : ℕ) (b : Map) (N
       room = omega (arith, ap (capacity versionWords) versions-length);
       count = omega (arith, length-append b (e ∷ []), B .count);
       sum = omega (arith, B .sum, held-snoc b e);
-      keys = λ j h. split j h (λ o. rw (entry-old j o, keys (suc j) o) (B .keys j o)) (λ q. rw (q, entry-x) (sym (at-x 0 ∙ key-x)));
-      places = λ j h. split j h (λ o. let w = B .places j o in rw (newest-old (suc j) o) (w .0, omega arith)) (λ q. rw (q, newest-x) (omega arith));
+      keys =
+          λ j h. split j h (λ o. rw (entry-old j o, keys (suc j) o) (B .keys j o)) (λ q. rw (q, entry-x) (sym (at-x 0 ∙ key-x)));
+      places =
+          λ j h. split j h (λ o. let w = B .places j o in rw (newest-old (suc j) o) (w .0, omega arith)) (λ q. rw (q, newest-x) (omega arith));
       chains = λ j h. split j h
           (λ o. rw (entry-old j o, newest-old (suc j) o) (chain-kept (m .versions) (m′ .versions) (m .counts .versions) i (omega arith) fields
           ((getD b j no-entry) .versions) (newest (m .nodes) (suc j)) (B .chains j o)))
@@ -296,7 +302,8 @@ module _ (m : Memory) (g : Ghost) (s : ℕ) (pr : Process) (tick : ℕ) (b : Map
       ok = (
         placed-kept (make-grown m g s (pr .call) (c .pred) b N B at₀ clear₀ held₀ room space s) q,
         tick-pos,
-        locks-old m g s (pr .call) (c .pred) b N B at₀ clear₀ held₀ room space (c .level) (c .pred) (q .spot .used, q .spot .up) ∙ h,
+        locks-old m g s (pr .call) (c .pred) b N B at₀ clear₀ held₀ room space (c .level) (c .pred) (q .spot .used, q .spot .up)
+            ∙ h,
         (omega arith, rw el (make-made m g s (pr .call) (c .pred) b N B at₀ clear₀ held₀ room space)),
       );
     };

@@ -16,7 +16,7 @@ use Rattle.model.specs.Numbers.{placeOf}
 use Rattle.model.specs.State.{idleProcess, noProcess, freshState, within, lawfulLength, lawfulNodes, lawfulVersions, isIdle}
 use Rattle.model.specs.Calls.{denyIf, openPermit, Opened, openBy, openOf, Store}
 use Rattle.model.specs.History.{emptyHistory, begin}
-use Rattle.model.specs.Linearizability.{answered}
+use Rattle.model.specs.Linearizability.{answeredBy}
 use Rattle.model.proofs.Tests.{if-by, and→, T-absurd, by-eq, by-le}
 use Rattle.model.proofs.Words.{filled, length-word, word-same, word-other}
 use Rattle.model.proofs.Level.{Level}
@@ -39,7 +39,8 @@ plain false t = t
 in-range : (low high n : ℕ) → T (within low high n) → (low ≤ n) × (n ≤ high)
 in-range low high n t = let q = and→ (leb low n) (leb n high) t in (leb→le low n (q .0), leb→le n high (q .1))
 
-granted-lawful : (nodes versions : List ℕ) (processes limit : ℕ) → openPermit nodes versions processes limit ≡ Granted → Lawful nodes versions processes limit
+granted-lawful : (nodes versions : List ℕ) (processes limit : ℕ) → openPermit nodes versions processes limit ≡ Granted
+    → Lawful nodes versions processes limit
 unfolding openPermit
 granted-lawful nodes versions processes limit =
     let P : Permit → Type 0 = λ d. d ≡ Granted → Lawful nodes versions processes limit in
@@ -94,16 +95,19 @@ module _ (nodes versions : List ℕ) (processes limit : ℕ) (law : Lawful nodes
 
   fresh-word : (x f : ℕ) → f < 16 → (x ≡ 0 → f ≢ 2) → word (freshNodes n) x f ≡ 0
   unfolding freshNodes
-  fresh-word x f f16 ne = word-other (replicate n 0) 0 x 2 f 5 (omega arith) f16 ne ∙ (unfold word in (filled {A = ℕ} n (nodeWords * x + f) 0))
+  fresh-word x f f16 ne =
+      word-other (replicate n 0) 0 x 2 f 5 (omega arith) f16 ne ∙ (unfold word in (filled {A = ℕ} n (nodeWords * x + f) 0))
 
   fresh-top : top (freshNodes n) 0 ≡ 5
   unfolding freshNodes
-  fresh-top = word-same (replicate n 0) 0 2 5 (omega arith) (omega (arith, length-replicate {A = ℕ} n 0, node-size n (law .node-length)))
+  fresh-top =
+      word-same (replicate n 0) 0 2 5 (omega arith) (omega (arith, length-replicate {A = ℕ} n 0, node-size n (law .node-length)))
 
   fresh-level : (l : ℕ) → Level (In m₀ g₀ l) (key (m₀ .nodes)) (next (m₀ .nodes) l)
   fresh-level l = record {
     step = λ x i ne. absurd (ne (fresh-word x (4 + l) (omega (arith, i .1)) (λ e. omega arith)));
-    gap = λ x z i j lt. absurd (omega (arith, fresh-word x 0 (omega arith) (λ e. omega arith), fresh-word z 0 (omega arith) (λ e. omega arith)));
+    gap =
+        λ x z i j lt. absurd (omega (arith, fresh-word x 0 (omega arith) (λ e. omega arith), fresh-word z 0 (omega arith) (λ e. omega arith)));
   }
 
   fresh-nodes : Nodes m₀ g₀
@@ -180,7 +184,7 @@ module _ (nodes versions : List ℕ) (processes limit : ℕ) (law : Lawful nodes
   none-busy (suc k) = rw (fresh-slot (λ q. q .call .kind ≡ Idle) refl refl k) (omega (arith, none-busy k))
 
   fresh-hist : Hist (capacity nodeWords n) (capacity versionWords (length versions)) w₀ (emptyHistory processes limit) [] []
-  unfolding played answered
+  unfolding played answeredBy
   fresh-hist = record {
     processes-is = refl;
     limit-is = refl;
@@ -190,7 +194,8 @@ module _ (nodes versions : List ℕ) (processes limit : ℕ) (law : Lawful nodes
     W-is = ap (capacity versionWords) (length-replicate {A = ℕ} (length versions) 0);
     book-is = refl;
     done = tt;
-    track = λ i. fresh-slot (λ q. Track (capacity nodeWords n) (capacity versionWords (length versions)) [] [] i Rattle.model.specs.History.noInvoked q)
+    track =
+        λ i. fresh-slot (λ q. Track (capacity nodeWords n) (capacity versionWords (length versions)) [] [] i Rattle.model.specs.History.noInvoked q)
         (record { same = refl; resting = λ e. refl; begun = omega arith; entered = λ ne. absurd (ne refl) })
         (record { same = refl; resting = λ e. refl; begun = omega arith; entered = λ ne. absurd (ne refl) }) i;
     nothing-else = λ k i c e. absurd (nothing≢took e);
@@ -204,13 +209,15 @@ module _ (nodes versions : List ℕ) (processes limit : ℕ) (law : Lawful nodes
   }
 
 -- the store that an accepted opening leaves
-pub opened-live : (nodes versions : List ℕ) (processes limit : ℕ) → openOf nodes versions processes limit .result .outcome ≡ Opening.Opened
+pub opened-live : (nodes versions : List ℕ) (processes limit : ℕ)
+    → openOf nodes versions processes limit .result .outcome ≡ Opening.Opened
     → let r = begin (openOf nodes versions processes limit) processes limit in
     Live (capacity nodeWords (length nodes)) (capacity versionWords (length versions)) (r .store) (r .history)
 unfolding openOf
 opened-live nodes versions processes limit = go (openPermit nodes versions processes limit) refl
   where
-    go : (d : Permit) → openPermit nodes versions processes limit ≡ d → openBy d nodes versions processes limit .result .outcome ≡ Opening.Opened
+    go : (d : Permit) → openPermit nodes versions processes limit ≡ d
+        → openBy d nodes versions processes limit .result .outcome ≡ Opening.Opened
         → let r = begin (openBy d nodes versions processes limit) processes limit in
         Live (capacity nodeWords (length nodes)) (capacity versionWords (length versions)) (r .store) (r .history)
     go (Denied x) e o = absurd (unfold openBy in (refused≢opened x o))

@@ -22,7 +22,8 @@ use Rattle.model.proofs.Inspected.{means-sound}
 use Rattle.model.proofs.Live.{memory, slot, Core, core-lawful, status-is}
 
 -- the chain of an entry's versions is sound
-chain-sound : (m : Memory) (i : ℕ) (vs : List Version) → 1 ≤ i → Chain (m .versions) (m .counts .versions) i vs → Sorted vs → ChainSound m i
+chain-sound : (m : Memory) (i : ℕ) (vs : List Version) → 1 ≤ i → Chain (m .versions) (m .counts .versions) i vs → Sorted vs
+    → ChainSound m i
 chain-sound m i [] p h s = absurd (omega arith)
 chain-sound m i (v ∷ []) p h s = oldest (h .0, h .1) (h .5)
 chain-sound m i (v ∷ u ∷ us) p h s =
@@ -72,7 +73,8 @@ module _ {w : Store} {g : Ghost} {b : Map} (k : Core w g b) (idle : (i : ℕ) �
     where
       chains : (x : ℕ) → 1 ≤ x → x ≤ m .counts .nodes → ChainSound m (newest (m .nodes) x)
       chains zero p h = absurd (omega arith)
-      chains (suc i) p h = chain-sound m (newest (m .nodes) (suc i)) ((getD b i no-entry) .versions) (k .book .places i h .0) (k .book .chains i h) (k .book .sorted i h)
+      chains (suc i) p h =
+          chain-sound m (newest (m .nodes) (suc i)) ((getD b i no-entry) .versions) (k .book .places i h .0) (k .book .chains i h) (k .book .sorted i h)
 
   below-idle : (n : ℕ) → idleBelow (w .state) n ≡ true
   unfolding idleBelow isIdle
@@ -84,9 +86,11 @@ module _ {w : Store} {g : Ghost} {b : Map} (k : Core w g b) (idle : (i : ℕ) �
   idle-inspects = rw (core-lawful k, below-idle (w .state .processes)) (unfold inspectBy in (means-sound m rested-sound))
 
 -- standing shows no call at any process, so none runs
-pub idle-sound : {w : Store} {g : Ghost} {b : Map} → Core w g b → ((i : ℕ) → i < w .state .processes → statusOf (w .state) i ≡ Status.Idle)
+pub idle-sound : {w : Store} {g : Ghost} {b : Map} → Core w g b
+    → ((i : ℕ) → i < w .state .processes → statusOf (w .state) i ≡ Status.Idle)
     → inspectOf (w .state) (w .nodes) (w .versions) ≡ Inspecting.Sound
-idle-sound {w} k f = idle-inspects k (λ i. by-le (w .state .processes) i (k .beyond i) (λ h. shown-idle (slot w i .call .kind) (slot w i) (sym (status-is k i h) ∙ f i h)))
+idle-sound {w} k f =
+    idle-inspects k (λ i. by-le (w .state .processes) i (k .beyond i) (λ h. shown-idle (slot w i .call .kind) (slot w i) (sym (status-is k i h) ∙ f i h)))
   where
     shown-idle : (kind : Kind) (pr : Process) → standing kind pr ≡ Status.Idle → kind ≡ Idle
     shown-idle Idle pr e = refl

@@ -25,7 +25,8 @@ use Rattle.model.proofs.Effects.{nothing, took, fed, nothing≢took, al
 use Rattle.model.proofs.Live.{memory, slot, Core, Track, Left, Before, Hist, Live, Event, event-hist, done-grow, core-lawful, idle-is, not-idle, one-busy, none-busy, busy-set, invoked-same, invoked-other, refused-live}
 
 -- what is refused is what is due
-pub due-denied : {K W : ℕ} {w : Store} {h : History} (d : Permit) (r : Refusal) → d ≡ Denied r → Live K W w h → Live K W w (sawRefusal h (isDenied d r))
+pub due-denied : {K W : ℕ} {w : Store} {h : History} (d : Permit) (r : Refusal) → d ≡ Denied r → Live K W w h
+    → Live K W w (sawRefusal h (isDenied d r))
 due-denied d r e l = refused-live (isDenied d r) (subst (λ q. T (isDenied q r)) (sym e) (eq→eqb (numberOf r) (numberOf r) refl)) l
 
 -- and an event that is due, with the right tick, is no fault
@@ -77,16 +78,19 @@ module _ {K W : ℕ} {w : Store} {h : History} (l : Live K W w h) (i : ℕ) (a :
       let k = l .hist in
       rw (core-lawful (l .core), k .processes-is, k .limit-is, k .ticks, ap (λ (c : Invoked). c .operation .kind) (k .track i .same)) refl
 
-  begun-fits : (k : Kind) → call .kind ≡ k → k ≢ Idle → PlacedOf (memory w) (l .g) (begun call) → Fits (memory w) (l .g) i (begun call)
+  begun-fits : (k : Kind) → call .kind ≡ k → k ≢ Idle → PlacedOf (memory w) (l .g) (begun call)
+      → Fits (memory w) (l .g) i (begun call)
   begun-fits Idle e ne q = absurd (ne refl)
   begun-fits Get e ne q = record { kind = Get; phase = Walk; kind-is = e; phase-is = refl; ok = (q, (refl, refl)) }
   begun-fits Put e ne q = record { kind = Put; phase = Walk; kind-is = e; phase-is = refl; ok = (q, (refl, refl)) }
 
   begun-placed : 1 ≤ call .key → PlacedOf (memory w) (l .g) (begun call)
-  begun-placed low = record { top5 = top5; six = refl; spot = head 5 (omega arith); memo = λ j h6. rw (filled {A = ℕ} 6 j 0) (head j h6) }
+  begun-placed low =
+      record { top5 = top5; six = refl; spot = head 5 (omega arith); memo = λ j h6. rw (filled {A = ℕ} 6 j 0) (head j h6) }
     where
       head : (j : ℕ) → j < 6 → At (memory w) (l .g) j 0 (call .key)
-      head j h6 = record { used = omega arith; up = omega (arith, l .core .nodes .head-high); low = omega (arith, l .core .nodes .head-key) }
+      head j h6 =
+          record { used = omega arith; up = omega (arith, l .core .nodes .head-high); low = omega (arith, l .core .nodes .head-key) }
 
   module _ (al : Allowed h i (call .key)) where
     below : i < w .state .processes
@@ -156,7 +160,8 @@ module _ {K W : ℕ} {w : Store} {h : History} (l : Live K W w h) (i : ℕ) (a :
             begun = omega (arith, q .ticks, start-is, length-append (h .log) (a ∷ []));
             entered = λ ne. absurd (ne refl);
           };
-          done = done-grow K W w h (l .b) (l .eff) q (k .array) i i8 a nothing (memory w) (begun call) (w .tally) invoked′ (suc (h .starts)) (h .completed) 0 (l .b);
+          done =
+              done-grow K W w h (l .b) (l .eff) q (k .array) i i8 a nothing (memory w) (begun call) (w .tally) invoked′ (suc (h .starts)) (h .completed) 0 (l .b);
           kept = λ n j c d. d;
           old = λ n c e f. absurd (omega (arith, q .track i .resting resting));
           now = λ n j c e f. absurd (nothing≢took f);
@@ -169,7 +174,8 @@ module _ {K W : ℕ} {w : Store} {h : History} (l : Live K W w h) (i : ℕ) (a :
             one-busy (call .kind) busy,
           );
           few = omega (arith, q .few);
-          no-faults = omega (arith, q .faults, no-fault (startDue h i (call .key)) (w .state .events + 1) (tickOf h) granted (omega (arith, q .ticks)));
+          no-faults =
+              omega (arith, q .faults, no-fault (startDue h i (call .key)) (w .state .events + 1) (tickOf h) granted (omega (arith, q .ticks)));
           past = λ j ks. by-eq j i
               (λ e. all-map (λ d s r. omega (arith, s .ended, ap (λ (y : Invoked). y .start) (ap invoked′ e ∙ invoked-same (h .invoked) i invoked₀)))
               (h .completed) (q .done))

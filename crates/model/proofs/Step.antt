@@ -170,14 +170,17 @@ module _ (m : Memory) (g : Ghost) (i : ℕ) (pr : Process) (tick : ℕ) (b : Map
 
   pub goes : (d : Cursor) → d .made ≡ c .made → Fits m g i (processAfter tick pr (Go d)) → Good m g i pr tick b (Go d) m
   unfolding processAfter
-  goes d e f = still (Go d) f (refl, e) (risen-same (alike-refl m g) (λ x k. record { kind = k .kind; answer = k .answer; made = e ∙ k .made }))
+  goes d e f =
+      still (Go d) f (refl, e) (risen-same (alike-refl m g) (λ x k. record { kind = k .kind; answer = k .answer; made = e ∙ k .made }))
 
   pub notes : (d : Cursor) → d .made ≡ c .made → Fits m g i (processAfter tick pr (Note d)) → Good m g i pr tick b (Note d) m
   unfolding processAfter
-  notes d e f = still (Note d) f (refl, e) (risen-same (alike-refl m g) (λ x k. record { kind = k .kind; answer = k .answer; made = e ∙ k .made }))
+  notes d e f =
+      still (Note d) f (refl, e) (risen-same (alike-refl m g) (λ x k. record { kind = k .kind; answer = k .answer; made = e ∙ k .made }))
 
   -- the predecessor is remembered
-  noted : PlacedOf m g pr → (l p : ℕ) → At m g l p (call .key) → Placed m g (call .top) (set (pr .preds) (c .level) (c .pred)) l p (call .key)
+  noted : PlacedOf m g pr → (l p : ℕ) → At m g l p (call .key)
+      → Placed m g (call .top) (set (pr .preds) (c .level) (c .pred)) l p (call .key)
   noted q l p a = record {
     top5 = q .top5;
     six = length-set (pr .preds) (c .level) (c .pred) ∙ q .six;
@@ -187,7 +190,8 @@ module _ (m : Memory) (g : Ghost) (i : ℕ) (pr : Process) (tick : ℕ) (b : Map
         (λ e. rw (getD-set-other (pr .preds) (c .level) j (c .pred) 0 e) (q .memo j h));
   }
 
-  walk-fits : (pr′ : Process) (k : Kind) → k ≢ Idle → pr′ .call .kind ≡ k → pr′ .cursor .phase ≡ Walk → PlacedOf m g pr′ → Unset (pr′ .effect) → Fits m g i pr′
+  walk-fits : (pr′ : Process) (k : Kind) → k ≢ Idle → pr′ .call .kind ≡ k → pr′ .cursor .phase ≡ Walk → PlacedOf m g pr′
+      → Unset (pr′ .effect) → Fits m g i pr′
   walk-fits pr′ Idle nn ek ep q u = absurd (nn refl)
   walk-fits pr′ Get nn ek ep q u = record { kind = Get; phase = Walk; kind-is = ek; phase-is = ep; ok = (q, u) }
   walk-fits pr′ Put nn ek ep q u = record { kind = Put; phase = Walk; kind-is = ek; phase-is = ep; ok = (q, u) }
@@ -199,7 +203,8 @@ module _ (m : Memory) (g : Ghost) (i : ℕ) (pr : Process) (tick : ℕ) (b : Map
   abbrev Bottom : (found : ℕ) → Type 0
   Bottom x = (x ≡ 0 → ClearOf m pr) × (x ≢ 0 → FoundAt m 0 x (call .key))
 
-  walked-good : (k : Kind) (found : ℕ) → call .kind ≡ k → k ≢ Idle → c .level ≡ 0 → PlacedOf m g pr → Unset (pr .effect) → Bottom found
+  walked-good : (k : Kind) (found : ℕ) → call .kind ≡ k → k ≢ Idle → c .level ≡ 0 → PlacedOf m g pr → Unset (pr .effect)
+      → Bottom found
       → Good m g i pr tick b (walked k call c tick found) m
   unfolding walked processAfter getFrom getBy
   walked-good Idle found ek nn el q u h = absurd (nn refl)
@@ -242,7 +247,8 @@ module _ (m : Memory) (g : Ghost) (i : ℕ) (pr : Process) (tick : ℕ) (b : Map
     },
   )
 
-  walk-by-good : (a : Ahead) → Related m (c .level) (c .pred) (call .key) a → call .kind ≢ Idle → PlacedOf m g pr → Unset (pr .effect)
+  walk-by-good : (a : Ahead) → Related m (c .level) (c .pred) (call .key) a → call .kind ≢ Idle → PlacedOf m g pr
+      → Unset (pr .effect)
       → Good m g i pr tick b (walkBy call c tick a) m
   unfolding walkBy processAfter
   walk-by-good Unused r nn q u = absurd (not-unused m g b N B (q .spot) r)
@@ -267,7 +273,8 @@ module _ (m : Memory) (g : Ghost) (i : ℕ) (pr : Process) (tick : ℕ) (b : Map
       (risen-alike (alike-refl m g) (λ y _ k. absurd (get-no-climb ek y k))))
       (λ t. absurd (T-absurd (usedVersion m x) (within-T (q .0) (q .1)) t))
 
-  seek-by-good : (a : Ahead) → Related m (c .level) (c .pred) (call .key) a → call .kind ≡ Put → PlacedOf m g pr → StageOf m g i pr
+  seek-by-good : (a : Ahead) → Related m (c .level) (c .pred) (call .key) a → call .kind ≡ Put → PlacedOf m g pr
+      → StageOf m g i pr
       → Good m g i pr tick b (seekBy c a) m
   unfolding seekBy processAfter
   seek-by-good Unused r ek q s = absurd (not-unused m g b N B (q .spot) r)
@@ -278,8 +285,10 @@ module _ (m : Memory) (g : Ghost) (i : ℕ) (pr : Process) (tick : ℕ) (b : Map
     phase-is = refl;
     ok = (record { top5 = q .top5; six = q .six; spot = along m g b N B (q .spot) r; memo = q .memo }, s);
   })
-  seek-by-good (Equal y) r ek q s = goes (at c Lock (c .level) (c .pred)) refl (record { kind = Put; phase = Lock; kind-is = ek; phase-is = refl; ok = (q, s) })
-  seek-by-good Past r ek q s = goes (at c Lock (c .level) (c .pred)) refl (record { kind = Put; phase = Lock; kind-is = ek; phase-is = refl; ok = (q, s) })
+  seek-by-good (Equal y) r ek q s =
+      goes (at c Lock (c .level) (c .pred)) refl (record { kind = Put; phase = Lock; kind-is = ek; phase-is = refl; ok = (q, s) })
+  seek-by-good Past r ek q s =
+      goes (at c Lock (c .level) (c .pred)) refl (record { kind = Put; phase = Lock; kind-is = ek; phase-is = refl; ok = (q, s) })
 
   pub seek-good : call .kind ≡ Put → PlacedOf m g pr → StageOf m g i pr → Good m g i pr tick b (seekOf call c m) m
   unfolding seekOf

@@ -20,7 +20,7 @@ use Rattle.model.specs.State.{idleProcess, noProcess, isIdle, withEvent}
 use Rattle.model.specs.Phases.{Moved, moved, ownVersion, maxNodes, maxVersions, turnOf}
 use Rattle.model.specs.Calls.{Store, Stepped, stepPermit, processAfter, outcomeOf, counted, tallyAfter, evented, storeAfter, stepBy, stepOf}
 use Rattle.model.specs.History.{Action, step, Operation, Invoked, noInvoked, Completed, History, tickOf, stepDue, isGranted, unless, invokedAt, sawStep}
-use Rattle.model.specs.Linearizability.{fedBy, replyBy, replyOf, All, answered}
+use Rattle.model.specs.Linearizability.{fedBy, replyBy, replyOf, All, answeredBy}
 use Rattle.model.proofs.Laws.{place-below}
 use Rattle.model.proofs.Tests.{if-by, if-lt, if-eq, by-eq, is-true, eq→eqb}
 use Rattle.model.proofs.Invariant.{Ghost, Fits, Climbs}
@@ -44,22 +44,22 @@ length-tally t (Commit c a) = refl
 length-tally t (End a v e) = if-by (λ (u : List ℕ). length u ≡ length t) (ltb (getD t (placeOf a) 0) (limits .count))
     (λ h. length-set t (placeOf a) (getD t (placeOf a) 0 + 1)) (λ h. refl)
 
-answered-few : (a : Answer) (l : List Completed) → answered a l ≤ length l
-unfolding answered
+answered-few : (a : Answer) (l : List Completed) → answeredBy a l ≤ length l
+unfolding answeredBy
 answered-few a [] = omega arith
 answered-few a (d ∷ l) =
     let h = answered-few a l in
-    if-by (λ (k : ℕ). k + answered a l ≤ suc (length l)) (eqb (placeOf (d .told .answer)) (placeOf a)) (λ t. omega arith) (λ t. omega arith)
+    if-by (λ (k : ℕ). k + answeredBy a l ≤ suc (length l)) (eqb (placeOf (d .told .answer)) (placeOf a)) (λ t. omega arith) (λ t. omega arith)
 
 -- the tally after a finished call: far fewer calls were finished than a count holds
 tally-counts : (t : List ℕ) (ds : List Completed) (d : Completed) (a : Answer) → length t ≡ 7 → length ds < (limits .count)
-    → getD t (placeOf (d .told .answer)) 0 ≡ answered (d .told .answer) ds → getD t (placeOf a) 0 ≡ answered a ds
-    → getD (counted t (d .told .answer)) (placeOf a) 0 ≡ answered a (d ∷ ds)
-unfolding counted answered
+    → getD t (placeOf (d .told .answer)) 0 ≡ answeredBy (d .told .answer) ds → getD t (placeOf a) 0 ≡ answeredBy a ds
+    → getD (counted t (d .told .answer)) (placeOf a) 0 ≡ answeredBy a (d ∷ ds)
+unfolding counted answeredBy
 tally-counts t ds d a l7 few e e′ =
     let p = placeOf (d .told .answer) in
-    if-lt (λ (u : List ℕ). getD u (placeOf a) 0 ≡ (if eqb p (placeOf a) then 1 else 0) + answered a ds) (getD t p 0) (limits .count)
-    (λ h. if-eq (λ (n : ℕ). getD (set t p (getD t p 0 + 1)) (placeOf a) 0 ≡ n + answered a ds) p (placeOf a)
+    if-lt (λ (u : List ℕ). getD u (placeOf a) 0 ≡ (if eqb p (placeOf a) then 1 else 0) + answeredBy a ds) (getD t p 0) (limits .count)
+    (λ h. if-eq (λ (n : ℕ). getD (set t p (getD t p 0 + 1)) (placeOf a) 0 ≡ n + answeredBy a ds) p (placeOf a)
     (λ q. rw (← q) (getD-set-same t p (getD t p 0 + 1) 0 (omega (arith, place-below (d .told .answer))) ∙ omega (arith, ap (λ (z : ℕ). getD t z 0) q)))
     (λ q. getD-set-other t p (placeOf a) (getD t p 0 + 1) 0 (λ z. q (sym z)) ∙ omega arith))
     (λ h. absurd (omega (arith, answered-few (d .told .answer) ds)))
@@ -71,8 +71,10 @@ Own v r = versionWith (r .answer) v noVersion ≡ v
 
 put-version : (K W : ℕ) (b : Map) (k : ℕ) (v : Version) (vs : List Version) → Own v (putBy K W b k v vs)
 unfolding putBy Own
-put-version K W b k v [] = if-by (Own v) (leb K (length b)) (λ t. refl) λ t. if-by (Own v) (leb W (held b)) (λ u. refl) (λ u. refl)
-put-version K W b k v (l ∷ ls) = if-by (Own v) (ltb (v .timestamp) (l .timestamp)) (λ t. refl) λ t. if-by (Own v) (leb W (held b)) (λ u. refl) (λ u. refl)
+put-version K W b k v [] =
+    if-by (Own v) (leb K (length b)) (λ t. refl) λ t. if-by (Own v) (leb W (held b)) (λ u. refl) (λ u. refl)
+put-version K W b k v (l ∷ ls) =
+    if-by (Own v) (ltb (v .timestamp) (l .timestamp)) (λ t. refl) λ t. if-by (Own v) (leb W (held b)) (λ u. refl) (λ u. refl)
 
 -- what the map replies to a put that it answers with a
 put-reply : (K W : ℕ) (b b′ : Map) (op : Operation) (a : Answer) → op .kind ≡ Put
@@ -85,7 +87,8 @@ put-reply K W b b′ op a ek e =
     rw (ek, e, v)
 
 put-fed : (K W : ℕ) (b b′ : Map) (op : Operation) (a : Answer) → op .kind ≡ Put
-    → putIn K W b (op .key) (record { value = op .value; timestamp = op .timestamp }) ≡ Seq.answered b′ a → b′ ≡ fedBy (op .kind) K W b op
+    → putIn K W b (op .key) (record { value = op .value; timestamp = op .timestamp }) ≡ Seq.answered b′ a
+    → b′ ≡ fedBy (op .kind) K W b op
 unfolding fedBy
 put-fed K W b b′ op a ek e = subst (λ k. b′ ≡ fedBy k K W b op) (sym ek) (sym (ap (λ (r : PutResult). r .map) e))
 
@@ -172,11 +175,13 @@ module _ {K W : ℕ} {w : Store} {h : History} (l : Live K W w h) (i : ℕ) (gra
   begun = subst (λ (c : Invoked). c .start ≤ length (h .log)) (sym same) (l .hist .track i .begun)
 
   -- the map that memory holds answers what the effects' map answers
-  reply-of : (r : Reply) → replyOf K W (l .b) (invokedOf pr .operation) ≡ r → replyOf K W (played K W [] (l .eff)) (c₀ .operation) ≡ r
+  reply-of : (r : Reply) → replyOf K W (l .b) (invokedOf pr .operation) ≡ r
+      → replyOf K W (played K W [] (l .eff)) (c₀ .operation) ≡ r
   reply-of r e = subst (λ (b : Map). replyOf K W b (c₀ .operation) ≡ r) (l .hist .book-is)
       (subst (λ (c : Invoked). replyOf K W (l .b) (c .operation) ≡ r) (sym same) e)
 
-  fed-of : (b′ : Map) → b′ ≡ fedBy (pr .call .kind) K W (l .b) (invokedOf pr .operation) → b′ ≡ fedBy (c₀ .operation .kind) K W (l .b) (c₀ .operation)
+  fed-of : (b′ : Map) → b′ ≡ fedBy (pr .call .kind) K W (l .b) (invokedOf pr .operation)
+      → b′ ≡ fedBy (c₀ .operation .kind) K W (l .b) (c₀ .operation)
   fed-of b′ e = subst (λ (c : Invoked). b′ ≡ fedBy (c .operation .kind) K W (l .b) (c .operation)) (sym same) e
 
   -- ---- the store
@@ -212,13 +217,16 @@ module _ {K W : ℕ} {w : Store} {h : History} (l : Live K W w h) (i : ℕ) (gra
             (λ ej. rw (ej, here) (lk n x j h6 hx e .1 ej))
             (λ ne. let o = lk n x j h6 hx e .0 ne in
             rw (getD-set-other (w .state .process) i j q noProcess ne) (k .locks j n x h6 (o .0) (o .1)));
-        beyond = λ j u. ap (λ (z : Process). z .call .kind) (getD-set-other (w .state .process) i j q noProcess (omega (arith, below))) ∙ k .beyond j u;
+        beyond =
+            λ j u. ap (λ (z : Process). z .call .kind) (getD-set-other (w .state .process) i j q noProcess (omega (arith, below)))
+            ∙ k .beyond j u;
       }
 
   -- ---- the history
 
   -- the call goes on, with the same arguments: x is what took effect
-  on-hist : (x : Took) (m : Memory) (q : Process) (b′ : Map) → length (m .nodes) ≡ length (w .nodes) → length (m .versions) ≡ length (w .versions)
+  on-hist : (x : Took) (m : Memory) (q : Process) (b′ : Map) → length (m .nodes) ≡ length (w .nodes)
+      → length (m .versions) ≡ length (w .versions)
       → b′ ≡ fed K W (l .b) x → q .call ≡ pr .call
       → (q .effect .tick ≢ 0 → Entered K W log′ (l .eff ++ (x ∷ [])) i c₀ (q .effect .tick) (record { answer = q .effect .answer; version = ownVersion (q .call) }))
       → ((n : ℕ) → pr .effect .tick ≡ suc n → q .effect .tick ≡ suc n)
@@ -251,7 +259,8 @@ module _ {K W : ℕ} {w : Store} {h : History} (l : Live K W w h) (i : ℕ) (gra
           begun = omega (arith, k .track i .begun, ap (λ (z : Call). z .start) ec, length-append (h .log) (step i ∷ []));
           entered = en;
         };
-        done = done-grow K W w h (l .b) (l .eff) k (l .core .array) i i8 (step i) x m q (w .tally) (h .invoked) (h .starts) (h .completed) faults b′;
+        done =
+            done-grow K W w h (l .b) (l .eff) k (l .core .array) i i8 (step i) x m q (w .tally) (h .invoked) (h .starts) (h .completed) faults b′;
         kept = λ n j c d. d;
         old = λ n c e f. inr (e, ap (λ (z : Process). z .effect .tick) s ∙ keep n f);
         now = λ n j c e f. let o = now n j c e f in inr (
@@ -305,7 +314,8 @@ module _ {K W : ℕ} {w : Store} {h : History} (l : Live K W w h) (i : ℕ) (gra
         W-same = vl;
         map-is = be;
         others = λ j ne. invoked-other (h .invoked) i noInvoked j ne;
-        track = record { same = invoked-same (h .invoked) i noInvoked; resting = λ z. refl; begun = omega arith; entered = λ ne. absurd (ne refl) };
+        track =
+            record { same = invoked-same (h .invoked) i noInvoked; resting = λ z. refl; begun = omega arith; entered = λ ne. absurd (ne refl) };
         done = (
           record {
             kind = sym kind-is;
@@ -344,11 +354,13 @@ module _ {K W : ℕ} {w : Store} {h : History} (l : Live K W w h) (i : ℕ) (gra
   -- ---- by the move
 
   -- the effect of this event is this call's
-  now-took : (e : ℕ) → e ≡ tick → (n j : ℕ) (c : Invoked) → n ≡ length (h .log) → took i c₀ ≡ took j c → (j ≡ i) × (c ≡ c₀) × (e ≡ suc n)
+  now-took : (e : ℕ) → e ≡ tick → (n j : ℕ) (c : Invoked) → n ≡ length (h .log) → took i c₀ ≡ took j c
+      → (j ≡ i) × (c ≡ c₀) × (e ≡ suc n)
   now-took e ee n j c en ex = (cc, cc, omega (arith, tick-is))
 
   -- nothing took effect
-  quiet-hist : (m : Memory) (q : Process) (b′ : Map) → length (m .nodes) ≡ length (w .nodes) → length (m .versions) ≡ length (w .versions)
+  quiet-hist : (m : Memory) (q : Process) (b′ : Map) → length (m .nodes) ≡ length (w .nodes)
+      → length (m .versions) ≡ length (w .versions)
       → b′ ≡ l .b → q .call ≡ pr .call → q .effect ≡ pr .effect
       → Hist K W (record { state = withEvent (w .state) i (m .counts) q; nodes = m .nodes; versions = m .versions; tally = w .tally })
       (record {
@@ -366,7 +378,8 @@ module _ {K W : ℕ} {w : Store} {h : History} (l : Live K W w h) (i : ℕ) (gra
       (λ ne. rw (ec, ee) (entered-grow K W (h .log) (l .eff) (step i) nothing even (l .hist .track i .entered (rw ee at ne))))
       (λ n e. rw ee e) (λ n j c e f. absurd (nothing≢took f))
 
-  commit-hist : (m : Memory) (c : Cursor) (a : Answer) (b′ : Map) → length (m .nodes) ≡ length (w .nodes) → length (m .versions) ≡ length (w .versions)
+  commit-hist : (m : Memory) (c : Cursor) (a : Answer) (b′ : Map) → length (m .nodes) ≡ length (w .nodes)
+      → length (m .versions) ≡ length (w .versions)
       → Does (memory w) pr tick (l .b) b′ (Commit c a)
       → Hist K W (evented w i (Commit c a) m) (sawStep h i (outcomeOf tick (pr .call) (Commit c a))) b′ (l .eff ++ (took i c₀ ∷ []))
   unfolding sawStep outcomeOf processAfter tallyAfter fed
@@ -404,7 +417,8 @@ module _ {K W : ℕ} {w : Store} {h : History} (l : Live K W w h) (i : ℕ) (gra
         b = G .b′;
         eff = l .eff ++ (nothing ∷ []);
         core = step-core (End a v e) m G lk;
-        hist = end-hist nothing m (G .b′) a v e (G .node-words) (G .version-words) (G .does .0) (omega (arith, d .2, en .tick-is, en .within, even, tick-is))
+        hist =
+            end-hist nothing m (G .b′) a v e (G .node-words) (G .version-words) (G .does .0) (omega (arith, d .2, en .tick-is, en .within, even, tick-is))
             (entered-cast (sym (d .2)) (rw (d .3, d .4) refl) (entered-grow K W (h .log) (l .eff) (step i) nothing even en))
             (λ n q. d .2 ∙ q) (λ n j c q f. absurd (nothing≢took f));
       }
@@ -457,7 +471,8 @@ module _ {K W : ℕ} {w : Store} {h : History} (l : Live K W w h) (i : ℕ) (gra
 
 -- ---- any step
 
-pub step-live : {K W : ℕ} {w : Store} {h : History} → Live K W w h → (i : ℕ) → Live K W (stepOf w i .store) (sawStep h i (stepOf w i .outcome))
+pub step-live : {K W : ℕ} {w : Store} {h : History} → Live K W w h → (i : ℕ)
+    → Live K W (stepOf w i .store) (sawStep h i (stepOf w i .outcome))
 unfolding stepOf
 step-live {K} {W} {w} {h} l i = rw due (go (stepDue h i) refl)
   where

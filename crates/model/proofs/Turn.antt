@@ -54,7 +54,8 @@ module _ (m : Memory) (g : Ghost) (i : ℕ) (pr : Process) (tick : ℕ) (b : Map
   basic Put Link nn c = at-basic (c .0 .spot)
   basic Put Release nn c = at-basic (c .0 .spot)
 
-  settled-right : (a : Answer) → Settled m g i (pr .call .top) (pr .cursor .made) (pr .call .key) (pr .cursor .level) a → T (fromPut a)
+  settled-right : (a : Answer) → Settled m g i (pr .call .top) (pr .cursor .made) (pr .call .key) (pr .cursor .level) a
+      → T (fromPut a)
   unfolding fromPut
   settled-right TooOld c = tt
   settled-right VersionsFull c = tt
@@ -76,7 +77,8 @@ module _ (m : Memory) (g : Ghost) (i : ℕ) (pr : Process) (tick : ℕ) (b : Map
   unset-right : pr .effect .tick ≡ 0 → T (noEffect (pr .effect) || fromPut (pr .effect .answer))
   unset-right e = or-left (noEffect (pr .effect)) (fromPut (pr .effect .answer)) (eq→eqb (pr .effect .tick) 0 e)
 
-  stage-right : (l : ℕ) → Stage m g i (pr .effect) (pr .call .top) (pr .cursor .made) (pr .call .key) l → T (noEffect (pr .effect) || fromPut (pr .effect .answer))
+  stage-right : (l : ℕ) → Stage m g i (pr .effect) (pr .call .top) (pr .cursor .made) (pr .call .key) l
+      → T (noEffect (pr .effect) || fromPut (pr .effect .answer))
   stage-right zero c = unset-right (c .0)
   stage-right (suc l) c = or-right (noEffect (pr .effect)) (fromPut (pr .effect .answer)) (unfold fromPut in (rw (c .1) tt))
 
@@ -102,7 +104,8 @@ module _ (m : Memory) (g : Ghost) (i : ℕ) (pr : Process) (tick : ℕ) (b : Map
   at-right Put Link nn c = stage-right (pr .cursor .level) (c .1)
   at-right Put Release nn c = settled-right (pr .effect .answer) (c .3)
 
-  lawful : (k : Kind) (ph : Phase) → k ≢ Idle → pr .call .kind ≡ k → pr .cursor .phase ≡ ph → Ok m g i pr k ph → T (lawfulProcess pr m)
+  lawful : (k : Kind) (ph : Phase) → k ≢ Idle → pr .call .kind ≡ k → pr .cursor .phase ≡ ph → Ok m g i pr k ph
+      → T (lawfulProcess pr m)
   unfolding lawfulProcess
   lawful k ph nn ek ep c =
       let q = basic k ph nn c in

@@ -45,102 +45,105 @@ unfolding putBy
 put-head t n K W b k v [] i ch p = absurd (omega arith)
 put-head t n K W b k v (l ∷ ls) i ch p = rw (ch .3)
 
-module _ (m : Memory) (g : Ghost) (call : Call) (b : Map) (N : Nodes m g) (B : Book m b) (j : ℕ) (used : suc j ≤ m .counts .nodes) where
-  abbrev x : ℕ
-  x = suc j
+module _ (m : Memory) (g : Ghost) (call : Call) (b : Map) (N : Nodes m g) (B : Book m b) (j : ℕ) (used : suc j ≤ m .counts .nodes)
+  where
+    abbrev x : ℕ
+    x = suc j
 
-  abbrev i : ℕ
-  i = m .counts .versions + 1
+    abbrev i : ℕ
+    i = m .counts .versions + 1
 
-  abbrev m′ : Memory
-  m′ = record {
-    nodes = withNewest (m .nodes) x i;
-    versions = withVersion (m .versions) i (ownVersion call) (newest (m .nodes) x);
-    counts = record { nodes = m .counts .nodes; versions = i };
-  }
-
-  abbrev b₁ : Map
-  b₁ = set b j (with-front (getD b j no-entry) (ownVersion call))
-
-  six : (l y : ℕ) → In m g l y → l < 6
-  six l y h = omega (arith, h .1, N .high y (h .0))
-
-  other-word : (y f : ℕ) → f < 16 → f ≢ 1 → word (m′ .nodes) y f ≡ word (m .nodes) y f
-  other-word y f f16 ne = word-field (m .nodes) x y 1 f i (omega arith) f16 ne
-
-  pub add-alike : Alike m m′ g
-  add-alike = record {
-    length-is = length-word (m .nodes) x 1 i;
-    count-is = refl;
-    keys = λ y h. other-word y 0 (omega arith) (omega arith);
-    tops = λ y h. other-word y 2 (omega arith) (omega arith);
-    links = λ l y h. let l6 = six l y h in other-word y (4 + l) (omega arith) (omega arith);
-  }
-
-  pub add-frame : (s : ℕ) → Frame m m′ g g s
-  add-frame s = frame-alike add-alike (λ l y h e. let l6 = six l y h in other-word y (10 + l) (omega arith) (omega arith) ∙ e)
-
-  pub versions-length : length (m′ .versions) ≡ length (m .versions)
-  versions-length = length-version (m .versions) i (ownVersion call) (newest (m .nodes) x)
-
-  module _ (space : m .counts .versions < maxVersions m) (newer : timestamp (m .versions) (newest (m .nodes) x) ≤ call .timestamp) where
-    fields : (y f : ℕ) → y ≤ m .counts .versions → f < 3 → field (m′ .versions) y f ≡ field (m .versions) y f
-    fields y f h f3 = version-out (m .versions) i (ownVersion call) (newest (m .nodes) x) y f f3 (omega arith)
-
-    new-field : (f : ℕ) → f < 3 → field (m′ .versions) i f ≡ getD (call .value ∷ call .timestamp ∷ newest (m .nodes) x ∷ []) f 0
-    new-field f f3 = version-in (m .versions) i (ownVersion call) (newest (m .nodes) x) f f3 (omega (arith, B .size))
-
-    newest-x : newest (m′ .nodes) x ≡ i
-    newest-x = word-same (m .nodes) x 1 i (omega arith) (omega (arith, N .size, N .room))
-
-    newest-other : (h : ℕ) → h ≢ j → newest (m′ .nodes) (suc h) ≡ newest (m .nodes) (suc h)
-    newest-other h ne = word-node (m .nodes) x (suc h) 1 1 i (omega arith) (omega arith) (omega arith)
-
-    lies : j < length b
-    lies = omega (arith, B .count)
-
-    entry-x : getD b₁ j no-entry ≡ with-front (getD b j no-entry) (ownVersion call)
-    entry-x = getD-set-same b j (with-front (getD b j no-entry) (ownVersion call)) no-entry lies
-
-    entry-other : (h : ℕ) → h ≢ j → getD b₁ h no-entry ≡ getD b h no-entry
-    entry-other h ne = getD-set-other b j h (with-front (getD b j no-entry) (ownVersion call)) no-entry ne
-
-    old-chain : (h : ℕ) → h < m .counts .nodes → Chain (m′ .versions) i (newest (m .nodes) (suc h)) ((getD b h no-entry) .versions)
-    old-chain h lt = chain-kept (m .versions) (m′ .versions) (m .counts .versions) i (omega arith) fields
-        ((getD b h no-entry) .versions) (newest (m .nodes) (suc h)) (B .chains h lt)
-
-    chain-x : Chain (m′ .versions) i i (ownVersion call ∷ (getD b j no-entry) .versions)
-    chain-x =
-        let p = B .places j (omega arith) in
-        let e = new-field 2 (omega arith) in
-        (omega arith, omega arith, new-field 0 (omega arith), new-field 1 (omega arith), omega arith, rw e (old-chain j (omega arith)))
-
-    key-at : (h : ℕ) → h < m .counts .nodes → (getD b₁ h no-entry) .key ≡ key (m .nodes) (suc h)
-    key-at h lt = by-eq h j
-        (λ e. rw (e, entry-x) (B .keys j (omega arith)))
-        (λ ne. rw (entry-other h ne) (B .keys h lt))
-
-    below : (vs : List Version) → Chain (m .versions) (m .counts .versions) (newest (m .nodes) x) vs → Below (call .timestamp) vs
-    below [] h = tt
-    below (v ∷ vs) h = omega (arith, h .3)
-
-    pub add-book : Book m′ b₁
-    add-book = record {
-      size = omega (arith, B .size, versions-length, ap (capacity versionWords) versions-length);
-      room = omega (arith, ap (capacity versionWords) versions-length);
-      count = length-set b j (with-front (getD b j no-entry) (ownVersion call)) ∙ B .count;
-      sum = omega (arith, B .sum, held-set b j (ownVersion call) lies);
-      keys = λ h lt. key-at h lt ∙ sym (other-word (suc h) 0 (omega arith) (omega arith));
-      places = λ h lt. by-eq h j
-          (λ e. rw (e, newest-x) (omega arith))
-          (λ ne. let q = B .places h lt in rw (newest-other h ne) (q .0, omega arith));
-      chains = λ h lt. by-eq h j
-          (λ e. rw (e, newest-x, entry-x) chain-x)
-          (λ ne. rw (newest-other h ne, entry-other h ne) (old-chain h lt));
-      sorted = λ h lt. by-eq h j
-          (λ e. rw (e, entry-x) (below ((getD b j no-entry) .versions) (B .chains j (omega arith)), B .sorted j (omega arith)))
-          (λ ne. rw (entry-other h ne) (B .sorted h lt));
+    abbrev m′ : Memory
+    m′ = record {
+      nodes = withNewest (m .nodes) x i;
+      versions = withVersion (m .versions) i (ownVersion call) (newest (m .nodes) x);
+      counts = record { nodes = m .counts .nodes; versions = i };
     }
+
+    abbrev b₁ : Map
+    b₁ = set b j (with-front (getD b j no-entry) (ownVersion call))
+
+    six : (l y : ℕ) → In m g l y → l < 6
+    six l y h = omega (arith, h .1, N .high y (h .0))
+
+    other-word : (y f : ℕ) → f < 16 → f ≢ 1 → word (m′ .nodes) y f ≡ word (m .nodes) y f
+    other-word y f f16 ne = word-field (m .nodes) x y 1 f i (omega arith) f16 ne
+
+    pub add-alike : Alike m m′ g
+    add-alike = record {
+      length-is = length-word (m .nodes) x 1 i;
+      count-is = refl;
+      keys = λ y h. other-word y 0 (omega arith) (omega arith);
+      tops = λ y h. other-word y 2 (omega arith) (omega arith);
+      links = λ l y h. let l6 = six l y h in other-word y (4 + l) (omega arith) (omega arith);
+    }
+
+    pub add-frame : (s : ℕ) → Frame m m′ g g s
+    add-frame s = frame-alike add-alike (λ l y h e. let l6 = six l y h in other-word y (10 + l) (omega arith) (omega arith) ∙ e)
+
+    pub versions-length : length (m′ .versions) ≡ length (m .versions)
+    versions-length = length-version (m .versions) i (ownVersion call) (newest (m .nodes) x)
+
+    module _ (space : m .counts .versions < maxVersions m) (newer : timestamp (m .versions) (newest (m .nodes) x) ≤ call .timestamp)
+      where
+        fields : (y f : ℕ) → y ≤ m .counts .versions → f < 3 → field (m′ .versions) y f ≡ field (m .versions) y f
+        fields y f h f3 = version-out (m .versions) i (ownVersion call) (newest (m .nodes) x) y f f3 (omega arith)
+
+        new-field : (f : ℕ) → f < 3 → field (m′ .versions) i f ≡ getD (call .value ∷ call .timestamp ∷ newest (m .nodes) x ∷ []) f 0
+        new-field f f3 = version-in (m .versions) i (ownVersion call) (newest (m .nodes) x) f f3 (omega (arith, B .size))
+
+        newest-x : newest (m′ .nodes) x ≡ i
+        newest-x = word-same (m .nodes) x 1 i (omega arith) (omega (arith, N .size, N .room))
+
+        newest-other : (h : ℕ) → h ≢ j → newest (m′ .nodes) (suc h) ≡ newest (m .nodes) (suc h)
+        newest-other h ne = word-node (m .nodes) x (suc h) 1 1 i (omega arith) (omega arith) (omega arith)
+
+        lies : j < length b
+        lies = omega (arith, B .count)
+
+        entry-x : getD b₁ j no-entry ≡ with-front (getD b j no-entry) (ownVersion call)
+        entry-x = getD-set-same b j (with-front (getD b j no-entry) (ownVersion call)) no-entry lies
+
+        entry-other : (h : ℕ) → h ≢ j → getD b₁ h no-entry ≡ getD b h no-entry
+        entry-other h ne = getD-set-other b j h (with-front (getD b j no-entry) (ownVersion call)) no-entry ne
+
+        old-chain : (h : ℕ) → h < m .counts .nodes
+            → Chain (m′ .versions) i (newest (m .nodes) (suc h)) ((getD b h no-entry) .versions)
+        old-chain h lt = chain-kept (m .versions) (m′ .versions) (m .counts .versions) i (omega arith) fields
+            ((getD b h no-entry) .versions) (newest (m .nodes) (suc h)) (B .chains h lt)
+
+        chain-x : Chain (m′ .versions) i i (ownVersion call ∷ (getD b j no-entry) .versions)
+        chain-x =
+            let p = B .places j (omega arith) in
+            let e = new-field 2 (omega arith) in
+            (omega arith, omega arith, new-field 0 (omega arith), new-field 1 (omega arith), omega arith, rw e (old-chain j (omega arith)))
+
+        key-at : (h : ℕ) → h < m .counts .nodes → (getD b₁ h no-entry) .key ≡ key (m .nodes) (suc h)
+        key-at h lt = by-eq h j
+            (λ e. rw (e, entry-x) (B .keys j (omega arith)))
+            (λ ne. rw (entry-other h ne) (B .keys h lt))
+
+        below : (vs : List Version) → Chain (m .versions) (m .counts .versions) (newest (m .nodes) x) vs → Below (call .timestamp) vs
+        below [] h = tt
+        below (v ∷ vs) h = omega (arith, h .3)
+
+        pub add-book : Book m′ b₁
+        add-book = record {
+          size = omega (arith, B .size, versions-length, ap (capacity versionWords) versions-length);
+          room = omega (arith, ap (capacity versionWords) versions-length);
+          count = length-set b j (with-front (getD b j no-entry) (ownVersion call)) ∙ B .count;
+          sum = omega (arith, B .sum, held-set b j (ownVersion call) lies);
+          keys = λ h lt. key-at h lt ∙ sym (other-word (suc h) 0 (omega arith) (omega arith));
+          places = λ h lt. by-eq h j
+              (λ e. rw (e, newest-x) (omega arith))
+              (λ ne. let q = B .places h lt in rw (newest-other h ne) (q .0, omega arith));
+          chains = λ h lt. by-eq h j
+              (λ e. rw (e, newest-x, entry-x) chain-x)
+              (λ ne. rw (newest-other h ne, entry-other h ne) (old-chain h lt));
+          sorted = λ h lt. by-eq h j
+              (λ e. rw (e, entry-x) (below ((getD b j no-entry) .versions) (B .chains j (omega arith)), B .sorted j (omega arith)))
+              (λ ne. rw (entry-other h ne) (B .sorted h lt));
+        }
 
 module _ (m : Memory) (g : Ghost) (s : ℕ) (pr : Process) (tick : ℕ) (b : Map) (N : Nodes m g) (B : Book m b) (tick-pos : tick ≢ 0)
     (ek : pr .call .kind ≡ Put) (unset : pr .effect .tick ≡ 0) (ea : pr .effect .answer ≡ None) (q : PlacedOf m g pr) (h : HoldsOf m s pr) where
@@ -223,8 +226,10 @@ module _ (m : Memory) (g : Ghost) (s : ℕ) (pr : Process) (tick : ℕ) (b : Map
 
   pub update-good : c .level ≡ 0 → TargetOf m pr → Result m g s pr tick b (updateOf call c m)
   unfolding updateOf
-  update-good el t = let t₀ = subst (λ l. Target m l (c .pred) (call .key)) el t in by-node (next (m .nodes) 0 (c .pred)) (t₀ .some) (t₀ .used) (t₀ .key-is)
+  update-good el t =
+      let t₀ = subst (λ l. Target m l (c .pred) (call .key)) el t in by-node (next (m .nodes) 0 (c .pred)) (t₀ .some) (t₀ .used) (t₀ .key-is)
     where
-      by-node : (y : ℕ) → y ≢ 0 → y ≤ m .counts .nodes → key (m .nodes) y ≡ call .key → Result m g s pr tick b (updateAt call c y m)
+      by-node : (y : ℕ) → y ≢ 0 → y ≤ m .counts .nodes → key (m .nodes) y ≡ call .key
+          → Result m g s pr tick b (updateAt call c y m)
       by-node zero n u k = absurd (n refl)
       by-node (suc j) n u k = at-good j u k

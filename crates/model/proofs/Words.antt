@@ -33,7 +33,8 @@ unfolding word withWord
 word-node t x y f g v hf hg ne = getD-set-other t (nodeWords * x + f) (nodeWords * y + g) v 0 (λ e. omega arith)
 
 -- another node, or another word of the same
-pub word-other : (t : List ℕ) (x y f g v : ℕ) → f < nodeWords → g < nodeWords → (y ≡ x → g ≢ f) → word (withWord t x f v) y g ≡ word t y g
+pub word-other : (t : List ℕ) (x y f g v : ℕ) → f < nodeWords → g < nodeWords → (y ≡ x → g ≢ f)
+    → word (withWord t x f v) y g ≡ word t y g
 word-other t x y f g v hf hg ne = by-eq y x (λ e. word-field t x y f g v hf hg (ne e)) (λ e. word-node t x y f g v hf hg e)
 
 -- ---- a run of words
@@ -59,7 +60,8 @@ sets-in (a ∷ vs) l i (suc j) h k =
     shift i j = omega arith
 
 -- a record of w words at record x: inside it, its own; elsewhere, what was there
-pub record-in : (w : ℕ) (vs t : List ℕ) (x f : ℕ) → length vs ≡ w → f < w → w * x + w ≤ length t → getD (sets t (w * x) vs) (w * x + f) 0 ≡ getD vs f 0
+pub record-in : (w : ℕ) (vs t : List ℕ) (x f : ℕ) → length vs ≡ w → f < w → w * x + w ≤ length t
+    → getD (sets t (w * x) vs) (w * x + f) 0 ≡ getD vs f 0
 record-in w vs t x f e hf h = sets-in vs t (w * x) f (omega arith) (omega arith)
 
 -- ---- one node's record, one version's record
@@ -69,7 +71,8 @@ module _ (t : List ℕ) (x k v tp y : ℕ) where
   unfolding withNode
   length-node = length-sets t (nodeWords * x) (nodeRecord k v tp y)
 
-  pub node-in : (f : ℕ) → f < nodeWords → nodeWords * x + nodeWords ≤ length t → word (withNode t x k v tp y) x f ≡ getD (nodeRecord k v tp y) f 0
+  pub node-in : (f : ℕ) → f < nodeWords → nodeWords * x + nodeWords ≤ length t
+      → word (withNode t x k v tp y) x f ≡ getD (nodeRecord k v tp y) f 0
   unfolding withNode word
   node-in f hf h = sets-in (nodeRecord k v tp y) t (nodeWords * x) f hf h
 

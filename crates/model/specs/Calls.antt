@@ -1,16 +1,16 @@
 -- The public calls of the store, each with all its refusals in document 01's order: open, start, step, look, standing
 -- (`statusOf`) and the tally. Inspection has a file of its own.
-use Prim.Native.Nat.{ℕ, zero, suc, _+_, _*_, _/_, _%_}
-use mathlib.Core.Bool.{Bool, true, false, not, _&&_}
-use mathlib.Core.List.{List, [], _∷_}
+use Prim.Native.Nat.{ℕ, zero, suc, _+_}
+use mathlib.Core.Bool.{Bool, not, _&&_}
+use mathlib.Core.List.{List}
 use lib.Count.{trailingZeros}
 use lib.Dec.{eqb, ltb, leb}
 use lib.ListN.{length, getD, set, replicate}
-use Rattle.model.specs.Types.{Kind, Idle, Put, Get, Walk, Answer, None, Refusal, NodeLength, VersionLength, ProcessCount, EventLimit, NoProcess, BadKey, Busy, NoCall, Spent, Corrupt, Damaged, NoKey, NoVersion, Call, Cursor, Process, State, Version, Permit, Granted, Denied, Move, Refuse, Wait, Go, Note, Commit, End, Opening, OpenResult, Starting, StartResult, Stepping, Looking, Status}
+use Rattle.model.specs.Types.{Kind, Idle, Put, Get, Walk, Answer, None, Refusal, NodeLength, VersionLength, ProcessCount, EventLimit, NoProcess, BadKey, Busy, NoCall, Spent, Corrupt, Damaged, NoKey, NoVersion, Call, Process, State, Permit, Granted, Denied, Move, Refuse, Wait, Go, Note, Commit, End, Opening, OpenResult, Starting, StartResult, Stepping, Looking, Status}
 use Rattle.model.specs.Choice.{if_then_else_}
 use Rattle.model.specs.Layout.{Memory, topLevel, levels, limits, key, newest, prev, versionAt, freshNodes}
 use Rattle.model.specs.Numbers.{placeOf}
-use Rattle.model.specs.State.{idleProcess, noProcess, processAt, freshState, closedState, withEvent, memoryOf, within, lawfulNodes, lawfulVersions, lawfulKey, lawfulState, lawfulStore, isIdle}
+use Rattle.model.specs.State.{idleProcess, processAt, freshState, closedState, withEvent, memoryOf, within, lawfulNodes, lawfulVersions, lawfulKey, lawfulState, lawfulStore, isIdle}
 use Rattle.model.specs.Phases.{Moved, usedVersion, turnOf}
 
 -- "Each is given if its condition is the first met in the order below, and never otherwise."
@@ -67,7 +67,7 @@ noSuch s i = leb (s .processes) i
 abbrev pub spent : State → Bool
 spent s = leb (s .limit) (s .events)
 
--- "Start: 10, 5, 6, 7, 9."
+-- "7 busy"; "Start: 10, 5, 6, 7, 9."
 unfoldable pub startPermit : State → (nodes versions : List ℕ) → (process key : ℕ) → Permit
 startPermit s nodes versions i k =
     denyIf (not (lawfulStore s nodes versions)) Corrupt
@@ -86,6 +86,7 @@ begun call = record {
   preds = replicate levels 0;
 }
 
+-- A refusal "changes no lent word and returns the state it was given."
 unfoldable pub startBy : Permit → State → ℕ → Call → StartResult
 startBy (Denied r) s i call = record { outcome = Starting.Refused r; state = s }
 startBy Granted s i call = record { outcome = Starting.Started (s .events + 1); state = withEvent s i (s .counts) (begun call) }
@@ -112,7 +113,7 @@ pub record Stepped : Type 0 where
   pub outcome : Stepping
   pub store : Store
 
--- "Step: 10, 5, 8, 9, 11."; 10 "at a step a tally of more or fewer words than there are counts"; for 11 see the phases
+-- "8 step with no call running"; "Step: 10, 5, 8, 9, 11."; 10 "at a step a tally of more or fewer words than there are counts"; for 11 see the phases
 unfoldable pub stepPermit : Store → (process : ℕ) → Permit
 stepPermit w i =
     denyIf (not (lawfulStore (w .state) (w .nodes) (w .versions) && eqb (length (w .tally)) (limits .answers))) Corrupt
@@ -197,6 +198,7 @@ stepOf w i = stepBy (stepPermit w i) w i
 
 -- ---- look
 
+-- "A look takes tray and a count of places back from the newest."; "It is no event."
 -- "It finds the first node from 1 with that tray number": among `left` nodes from x on, or 0
 unfoldable pub findFrom : List ℕ → (key left x : ℕ) → ℕ
 findFrom t k zero x = 0

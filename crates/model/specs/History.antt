@@ -1,19 +1,19 @@
 -- What an observer of calls and outcomes writes down. He sees nothing of the store inside: from an accepted opening on he
 -- keeps the events, each process's call as its accepted start gave it, the finished calls, the looks, and a count of
 -- faults: outcomes that document 01 rules out, by what he has seen so far.
-use Prim.Native.Nat.{ℕ, zero, suc, _+_}
+use Prim.Native.Nat.{ℕ, suc, _+_}
 use mathlib.Core.Bool.{Bool, true, false, not, _&&_}
 use mathlib.Core.List.{List, [], _∷_, _++_}
 use lib.Dec.{eqb, leb}
 use lib.ListN.{length, replicate}
-use Rattle.model.specs.Types.{Kind, Idle, Put, Get, Refusal, NoProcess, BadKey, Busy, NoCall, Spent, State, Permit, Granted, Denied, Finish, Starting, StartResult, Stepping, Looking}
+use Rattle.model.specs.Types.{Kind, Idle, Put, Get, Refusal, NoProcess, BadKey, Busy, NoCall, Spent, State, Permit, Granted, Denied, Finish, Starting, Stepping, Looking}
 use Rattle.model.specs.Choice.{if_then_else_}
 use Rattle.model.specs.Layout.{limits}
 use Rattle.model.specs.Numbers.{numberOf}
 use Rattle.model.specs.State.{lawfulKey, isIdle}
-use Rattle.model.specs.Calls.{denyIf, Opened, startPutOf, startGetOf, Store, Stepped, stepOf, lookOf}
+use Rattle.model.specs.Calls.{denyIf, Opened, startPutOf, startGetOf, Store, stepOf, lookOf}
 
--- "every list of starts, steps and looks"
+-- the members of "the lists of demand 3"
 pub data Action : Type 0 where
   startPut : (process key value timestamp draw : ℕ) → Action
   startGet : (process key : ℕ) → Action
@@ -60,17 +60,20 @@ pub record History : Type 0 where
   pub queries : List Query
   pub faults : ℕ
 
-abbrev pub emptyHistory : (processes limit : ℕ) → History
-emptyHistory processes limit = record {
+abbrev pub historyOf : (processes limit : ℕ) → List Action → (ℕ → Invoked) → (starts : ℕ) → List Completed → List Query → (faults : ℕ) → History
+historyOf processes limit log invoked starts completed queries faults = record {
   processes = processes;
   limit = limit;
-  log = [];
-  invoked = λ i. noInvoked;
-  starts = 0;
-  completed = [];
-  queries = [];
-  faults = 0;
+  log = log;
+  invoked = invoked;
+  starts = starts;
+  completed = completed;
+  queries = queries;
+  faults = faults;
 }
+
+abbrev pub emptyHistory : (processes limit : ℕ) → History
+emptyHistory processes limit = historyOf processes limit [] (λ i. noInvoked) 0 [] [] 0
 
 -- "its tick is the count of events so far, itself included"
 abbrev pub tickOf : History → ℕ
@@ -109,29 +112,14 @@ unless right = if right then 0 else 1
 
 -- "A refused start or step has no tick and gives the ledger nothing."
 abbrev pub sawRefusal : History → Bool → History
-sawRefusal h right = record {
-  processes = h .processes;
-  limit = h .limit;
-  log = h .log;
-  invoked = h .invoked;
-  starts = h .starts;
-  completed = h .completed;
-  queries = h .queries;
-  faults = h .faults + unless right;
-}
+sawRefusal h right =
+    historyOf (h .processes) (h .limit) (h .log) (h .invoked) (h .starts) (h .completed) (h .queries) (h .faults + unless right)
 
 -- an event, that answered this tick
 abbrev pub sawEvent : History → Action → (ℕ → Invoked) → (starts : ℕ) → List Completed → Permit → (tick : ℕ) → History
-sawEvent h a invoked starts completed due tick = record {
-  processes = h .processes;
-  limit = h .limit;
-  log = h .log ++ (a ∷ []);
-  invoked = invoked;
-  starts = starts;
-  completed = completed;
-  queries = h .queries;
-  faults = h .faults + unless (isGranted due && eqb tick (tickOf h));
-}
+sawEvent h a invoked starts completed due tick =
+    historyOf (h .processes) (h .limit) (h .log ++ (a ∷ [])) invoked starts completed (h .queries)
+    (h .faults + unless (isGranted due && eqb tick (tickOf h)))
 
 unfoldable pub invokedAt : (ℕ → Invoked) → ℕ → Invoked → ℕ → Invoked
 invokedAt f i c j = if eqb j i then c else f j
@@ -151,16 +139,9 @@ sawStep h i (Stepping.Finished f) =
     (record { process = i; invoked = h .invoked i; told = f; ended = tickOf h } ∷ h .completed) (stepDue h i) (f .finish)
 
 unfoldable pub sawLook : History → (key back : ℕ) → Looking → History
-sawLook h k back o = record {
-  processes = h .processes;
-  limit = h .limit;
-  log = h .log;
-  invoked = h .invoked;
-  starts = h .starts;
-  completed = h .completed;
-  queries = record { key = k; back = back; events = length (h .log); outcome = o } ∷ h .queries;
-  faults = h .faults;
-}
+sawLook h k back o =
+    historyOf (h .processes) (h .limit) (h .log) (h .invoked) (h .starts) (h .completed)
+    (record { key = k; back = back; events = length (h .log); outcome = o } ∷ h .queries) (h .faults)
 
 -- ---- the list
 

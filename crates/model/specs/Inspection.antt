@@ -3,11 +3,11 @@ use Prim.Native.Nat.{ℕ, zero, suc, _+_}
 use mathlib.Core.Bool.{Bool, true, false, not, _&&_}
 use mathlib.Core.List.{List}
 use lib.Dec.{eqb, ltb, leb}
-use Rattle.model.specs.Types.{Kind, Idle, Process, State, Refusal, Corrupt, Busy, Permit, Granted, Denied, Inspecting}
+use Rattle.model.specs.Types.{State, Corrupt, Busy, Permit, Granted, Denied, Inspecting}
 use Rattle.model.specs.Choice.{if_then_else_}
 use Rattle.model.specs.Layout.{Memory, levels, key, newest, top, next, lock, timestamp, prev}
 use Rattle.model.specs.State.{processAt, memoryOf, lawfulStore, isIdle}
-use Rattle.model.specs.Phases.{usedNode, usedVersion}
+use Rattle.model.specs.Phases.{usedVersion}
 use Rattle.model.specs.Calls.{denyIf}
 
 -- "a reading place that is 0 or not in use, a previous place not smaller": the chain from version i, of at most `fuel` versions
@@ -66,7 +66,8 @@ thenInspect (Inspecting.Refused r) rest = Inspecting.Refused r
 thenInspect (Inspecting.Fault l x) rest = Inspecting.Fault l x
 thenInspect Inspecting.Sound rest = rest
 
--- "For levels 0 to 5, along the links from node 0, the inspection stops at the first fault": `left` levels from l on.
+-- "For levels 0 to 5, along the links from node 0, the inspection stops at the first fault"; "The answer is sound, or level
+-- and node reached.": `left` levels from l on.
 -- Keys rise along the links, so no level has more nodes than are in use.
 unfoldable pub levelsFrom : Memory → (left level : ℕ) → Inspecting
 levelsFrom m zero l = Inspecting.Sound

@@ -33,7 +33,8 @@ topLevel = limits .top
 abbrev pub levels : ℕ
 levels = suc topLevel
 
--- K or V of a table: what a table of so many words holds beside its unused first record
+-- K or V of a table: what a table of so many words holds beside its first record. "Node 0 is the left sentinel"; "Place 0
+-- is unused."
 unfoldable pub capacity : (words length : ℕ) → ℕ
 capacity words length = length / words - 1
 

@@ -1,21 +1,23 @@
--- Demand 3: the claim about a whole list of starts, steps and looks, read off the observer's history, the tally and the
--- public calls standing and inspection alone.
+-- Demand 3: "For every list of starts, steps and looks from a fresh store: each finished call took effect at one of its own
+-- steps; playing the calls in that order on the plain sequential map gives exactly the answers given; looks answer from
+-- that map; tallies and counts add up; no damage is ever reported; an idle store inspects sound."
+-- "Demand 3 is a single claim about the whole list, not one for each call in it." It is read off the observer's history, the
+-- tally, the counts in the state and the public calls standing and inspection. Quotations below are document 01's.
 use Prim.Native.Nat.{ℕ, zero, suc, _+_, _≤_, _<_}
-use mathlib.Core.Bool.{Bool, true, false}
 use mathlib.Core.List.{List, [], _∷_, _++_}
 use mathlib.Core.Logic.{_≢_}
 use mathlib.Core.Path.{_≡_}
 use lib.Dec.{eqb}
 use lib.ListN.{length, getD}
-use Rattle.model.specs.Types.{Kind, Idle, Put, Get, Answer, None, Refusal, BadKey, State, Version, Finish, Opening, Looking, Inspecting, Status}
+use Rattle.model.specs.Types.{Kind, Idle, Put, Get, Answer, None, BadKey, Counts, State, Version, Opening, Looking, Inspecting, Status}
 use Rattle.model.specs.Choice.{if_then_else_}
 use Rattle.model.specs.Layout.{nodeWords, versionWords, limits, capacity}
 use Rattle.model.specs.Numbers.{placeOf, noVersion, versionWith}
-use Rattle.model.specs.Map.{Map, PutResult, putIn, Reply, getFrom, lookIn}
+use Rattle.model.specs.Map.{Map, held, PutResult, putIn, Reply, getFrom, lookIn}
 use Rattle.model.specs.State.{lawfulKey}
 use Rattle.model.specs.Calls.{openOf, Store, statusOf}
 use Rattle.model.specs.Inspection.{inspectOf}
-use Rattle.model.specs.History.{Action, step, look, Operation, Invoked, Completed, Query, History, Run, performAll, begin}
+use Rattle.model.specs.History.{Action, step, look, Operation, Invoked, Completed, Query, History, performAll, begin}
 
 -- ---- the sequential map, fed with operations
 
@@ -100,8 +102,7 @@ pub record Timely (log : List Action) (process : ℕ) (c : Invoked) (tick : ℕ)
   pub own-step : getD log before (look 0 0) ≡ step process
   pub after-start : c .start < tick
 
--- a finished call: "each finished call took effect at one of its own steps; playing the calls in that order on the plain
--- sequential map gives exactly the answers given"
+-- a finished call
 pub record Right (K W : ℕ) (log : List Action) (es : List Effected) (c : Completed) : Type 0 where
   -- "A call's kind and start tick are those of its accepted start"
   pub kind : c .told .kind ≡ c .invoked .operation .kind
@@ -111,7 +112,7 @@ pub record Right (K W : ℕ) (log : List Action) (es : List Effected) (c : Compl
   -- "its effect tick is that of a step of its station, above the start tick and not above the finish tick"
   pub effect : Timely log (c .process) (c .invoked) (c .told .effect)
   pub in-time : c .told .effect ≤ c .told .finish
-  -- the map's answer just before that tick
+  -- the answer given is that of the map just before that tick
   pub answer : replyOf K W (mapAt es (effect .before) K W) (c .invoked .operation)
       ≡ record { answer = c .told .answer; version = record { value = c .told .value; timestamp = c .told .timestamp } }
 
@@ -128,14 +129,17 @@ abbrev pub Answers : (K W : ℕ) → List Effected → Query → Type 0
 Answers K W es q = q .outcome ≡
     (if lawfulKey (q .key) then lookIn (mapAt es (q .events) K W) (q .key) (q .back) else Looking.Refused BadKey)
 
-unfoldable pub answered : Answer → List Completed → ℕ
-answered a [] = 0
-answered a (c ∷ cs) = (if eqb (placeOf (c .told .answer)) (placeOf a) then 1 else 0) + answered a cs
+unfoldable pub answeredBy : Answer → List Completed → ℕ
+answeredBy a [] = 0
+answeredBy a (c ∷ cs) = (if eqb (placeOf (c .told .answer)) (placeOf a) then 1 else 0) + answeredBy a cs
 
 abbrev pub running : Status → ℕ
 running (Status.Refused r) = 0
 running Status.Idle = 0
 running (Status.Running kind start e) = 1
+
+abbrev pub countsOf : Map → Counts
+countsOf b = record { nodes = length b; versions = held b }
 
 -- the processes below n that have a call
 unfoldable pub runningBelow : State → ℕ → ℕ
@@ -147,26 +151,28 @@ pub record Claim (K W : ℕ) (w : Store) (h : History) : Type 0 where
   pub events : w .state .events ≡ length (h .log)
   -- "the count of events in the state never passes it"
   pub limit : length (h .log) ≤ h .limit
-  -- "each finished call took effect at one of its own steps"
+  -- "Finished are the calls whose finishing answer was given within the list."
   pub completed : All (Right K W (h .log) (effectsOf (w .state) h)) (h .completed)
   -- "Running are the calls that standing shows when the list is done"
   pub standing : (i : ℕ) → i < h .processes → Shows (h .log) i (h .invoked i) (statusOf (w .state) i)
   -- "in rising order of their effect ticks": the ticks order the calls
   pub distinct : Distinct (effectsOf (w .state) h)
-  -- "looks answer from that map"
+  -- "A look meets the ledger after the effects of all events before it"
   pub looks : All (Answers K W (effectsOf (w .state) h)) (h .queries)
   -- "From zero, each equals the finished calls with its answer."
-  pub tally : (a : Answer) → getD (w .tally) (placeOf a) 0 ≡ answered a (h .completed)
+  pub tally : (a : Answer) → getD (w .tally) (placeOf a) 0 ≡ answeredBy a (h .completed)
   pub tally-words : length (w .tally) ≡ limits .answers
-  -- "tallies and counts add up": accepted starts are the finished and the running calls
+  -- the counts of nodes and versions in use are those of the map
+  pub counts : w .state .counts ≡ countsOf (mapAt (effectsOf (w .state) h) (length (h .log)) K W)
+  -- accepted starts are the finished and the running calls
   pub starts : h .starts ≡ length (h .completed) + runningBelow (w .state) (h .processes)
-  -- "no damage is ever reported"; nor a tick that is not the count of events, nor a refusal that was not due
+  -- "Damage is refusal 10 or 11.": none is reported, nor a tick that is not the count of events, nor a refusal that is not due
   pub faults : h .faults ≡ 0
-  -- "an idle store inspects sound"
+  -- "An idle store after any list of demand 3 is sound."
   pub idle-sound : ((i : ℕ) → i < h .processes → statusOf (w .state) i ≡ Status.Idle)
       → inspectOf (w .state) (w .nodes) (w .versions) ≡ Inspecting.Sound
 
--- "For every list of starts, steps and looks from a fresh store", refused ones included, over tables of any contents
+-- for every accepted opening over tables of any contents, and every list of actions, refused ones included
 abbrev pub Linearizable : Type 0
 Linearizable = (nodes versions : List ℕ) (processes limit : ℕ)
     → openOf nodes versions processes limit .result .outcome ≡ Opening.Opened

@@ -78,9 +78,9 @@ backIn [] back = Looking.Refused NoVersion
 backIn (v ∷ older) zero = Looking.Shown v
 backIn (v ∷ older) (suc back) = backIn older back
 
-unfoldable pub lookBy : List Version → ℕ → Looking
-lookBy [] back = Looking.Refused NoKey
-lookBy (v ∷ older) back = backIn (v ∷ older) back
+unfoldable pub lookList : List Version → ℕ → Looking
+lookList [] back = Looking.Refused NoKey
+lookList (v ∷ older) back = backIn (v ∷ older) back
 
 unfoldable pub lookIn : Map → ℕ → ℕ → Looking
-lookIn b k back = lookBy (versionsOf b k) back
+lookIn b k back = lookList (versionsOf b k) back

@@ -1,5 +1,5 @@
 -- Document 01, "Steps of a station": one step is one line, given as what it asks of the process (a move) and the memory
--- that it leaves. All of refusal 11 is here: a move `Refuse` leaves the memory as it was.
+-- that it leaves. All of a step's refusal 11 is here: a move `Refuse` leaves the memory as it was.
 use Prim.Native.Nat.{ℕ, _+_, _-_}
 use mathlib.Core.Bool.{Bool, true, false, not, _&&_, _||_}
 use mathlib.Core.List.{List}
@@ -30,7 +30,10 @@ ended call a v tick = End a (versionWith a (ownVersion call) v) tick
 
 -- ---- what is in use
 
--- a node that is read, written or followed; "a new node [..] numbered 0" is none
+-- "and, when needed, a top above 5, a node or reading number not in use that this step reads from, writes to, follows,
+-- compares or takes up as p (a link that make or link only copies is not tested, nor the unused node and place that make
+-- and update fill), a new node or newest reading numbered 0, or a previous place not smaller"
+-- a node in use other than the head: what update's link leads to, and link's new node
 abbrev pub usedNode : Memory → ℕ → Bool
 usedNode m x = leb 1 x && leb x (m .counts .nodes)
 
@@ -143,7 +146,7 @@ addVersion call x m =
       counts = record { nodes = m .counts .nodes; versions = i };
     }
 
--- the put on node x, whose newest version is i
+-- "Update and make: take effect as the ledger's put": on node x, whose newest version is i
 unfoldable pub updateNode : Call → Cursor → ℕ → (newest : ℕ) → Memory → Moved
 updateNode call c x i m =
     if ltb (call .timestamp) (timestamp (m .versions) i) then moved m (committed c (c .made) TooOld)
@@ -160,7 +163,7 @@ updateAt call c x m =
 unfoldable pub updateOf : Call → Cursor → Memory → Moved
 updateOf call c m = updateAt call c (next (m .nodes) 0 (c .pred)) m
 
--- the new node, with the call's version, behind p at level 0: "Its link at level 0 is the one p had, [..] and its
+-- "in the order of making: node 1, 2 and so on"; "Places are given out in rising order and never taken back."; "Its link at level 0 is the one p had, [..] and its
 -- reading's previous place is 0."
 unfoldable pub addNode : Call → Cursor → Memory → Memory
 addNode call c m =

@@ -1,5 +1,5 @@
--- What a sound store is, said without a walk (READING O21). proofs/Inspected.antt holds the inspection of document 01
--- against it.
+-- What a sound store is, said without a walk (docs/DECISIONS.md, O21). proofs/Inspected.antt holds the inspection of
+-- document 01 against it.
 use Prim.Native.Nat.{ℕ, _≤_, _<_}
 use mathlib.Core.Logic.{_≢_}
 use mathlib.Core.Path.{_≡_}

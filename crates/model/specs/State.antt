@@ -1,8 +1,8 @@
 -- The state: a process without a call, the states that opening gives, and refusal 10.
 use Prim.Native.Nat.{ℕ, suc, _+_, _*_, _%_}
-use mathlib.Core.Bool.{Bool, true, false, not, _&&_}
-use mathlib.Core.List.{List, [], _∷_}
-use lib.Dec.{leb, ltb, eqb}
+use mathlib.Core.Bool.{Bool, true, false, _&&_}
+use mathlib.Core.List.{List, []}
+use lib.Dec.{leb, eqb}
 use lib.ListN.{length, getD, set, replicate}
 use Rattle.model.specs.Types.{Kind, Idle, Put, Get, Walk, Answer, TooOld, None, Process, Lengths, Counts, State}
 use Rattle.model.specs.Layout.{nodeWords, versionWords, levels, limits, capacity, Memory}

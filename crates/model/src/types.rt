@@ -20,7 +20,7 @@ pub enum Phase {
     Update, // update
     Make, // createAndLink
     Link, // link
-    Release, // insert, insertAll: unlock
+    Release, // tryInsert, insert: release; insertAll: the next level
 }
 
 // Document 01's answers, in the order in which its plain ledger names them.

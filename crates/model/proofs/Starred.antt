@@ -1,0 +1,168 @@
+-- Trays on the test bench: document 01's cases in one table, proved by computing both sides.
+use Prim.Native.Nat.{ℕ}
+use mathlib.Core.List.{List, [], _∷_, _++_, map}
+use mathlib.Core.Path.{_≡_, refl}
+use lib.ListN.{replicate}
+use Rattle.model.specs.Types.{Put, Get, Opening, Starting, Stepping, Looking, Inspecting, Status}
+use Rattle.model.specs.Types.{TooOld, VersionsFull, Added, KeysFull, New, Found, None}
+use Rattle.model.specs.Types.{Refusal, NodeLength, VersionLength, ProcessCount, EventLimit, NoProcess, BadKey}
+use Rattle.model.specs.Types.{Busy, NoCall, Spent, Corrupt, NoKey, NoVersion}
+use Rattle.model.specs.History.{startPut, startGet, step, look}
+use Rattle.model.proofs.Bench.{Case, call, opening, status, inspect, tally, tables, observer, ledger}
+use Rattle.model.proofs.Bench.{started, stands, inspected, words, lists, opened, said}
+use Rattle.model.proofs.Bench.{lent, fit, with-tally, case, steps, put, get, times, side-by-side, done, on, wait}
+use Rattle.model.proofs.Bench.{shows, no-start, no-step, no-look, one, two, draw-gives, draw-makes, opens}
+use Rattle.model.proofs.Bench.{thrice, both, entry, mixed}
+
+-- ---- the cases that document 01 wants proved
+
+pub starred : List Case
+starred =
+    -- "Draws 1, 2, 16, 32, 32,768, 0 give tops 0, 1, 4, 5, 5, 5."
+    draw-gives 1 0 ∷ draw-gives 2 1 ∷ draw-gives 16 4 ∷ draw-gives 32 5 ∷ draw-gives 32_768 5 ∷ draw-gives 0 5 ∷
+    draw-makes 1 0 ∷ draw-makes 2 1 ∷ draw-makes 16 4 ∷ draw-makes 32 5 ∷ draw-makes 32_768 5 ∷ draw-makes 0 5 ∷
+    -- "Empty store, get: 6 steps, none."
+    case one (get 4 7) (call (step 0)) (on 6) ∷
+    case one (get 5 7) (call (step 0)) (done Get None 0 0 1 7 7) ∷
+    -- "Put, draw 1: 11 steps, effect in the 10th."
+    case one (put 9 7 5 100) (status 0) (stands (Status.Running Put 1 0)) ∷
+    case one (put 9 7 5 100) (call (step 0)) (on 11) ∷
+    case one (put 10 7 5 100) (status 0) (stands (Status.Running Put 1 11)) ∷
+    case one (put 10 7 5 100) (call (step 0)) (done Put New 5 100 1 11 12) ∷
+    -- "Draw 8: 26 steps."
+    case one (startPut 0 7 5 100 8 ∷ steps 24 0) (call (step 0)) (on 26) ∷
+    case one (startPut 0 7 5 100 8 ∷ steps 25 0) (call (step 0)) (done Put New 5 100 1 11 27) ∷
+    -- "Draw 0: 36."
+    case one (startPut 0 7 5 100 0 ∷ steps 34 0) (call (step 0)) (on 36) ∷
+    case one (startPut 0 7 5 100 0 ∷ steps 35 0) (call (step 0)) (done Put New 5 100 1 11 37) ∷
+    -- "Stamp 100, then 100: added. Then 99: too old."
+    case one (put 11 7 5 100 ++ put 10 7 6 100) (call (step 0)) (done Put Added 6 100 13 23 24) ∷
+    case one (put 11 7 5 100 ++ put 11 7 6 100 ++ put 10 7 8 99) (call (step 0)) (done Put TooOld 8 99 25 35 36) ∷
+    -- "K 1, V 1: another tray is trays full; same tray with a later stamp is readings full, with an earlier one too old."
+    case (fit 1 1 1 400) (put 11 7 5 100 ++ put 11 8 6 100) (call (step 0)) (done Put KeysFull 6 100 13 24 25) ∷
+    case (fit 1 1 1 400) (put 11 7 5 100 ++ put 10 7 6 101) (call (step 0)) (done Put VersionsFull 6 101 13 23 24) ∷
+    case (fit 1 1 1 400) (put 11 7 5 100 ++ put 10 7 6 99) (call (step 0)) (done Put TooOld 6 99 13 23 24) ∷
+    -- "Both stations seven steps into a put on an empty store, then one step of 0: the next step of 1 waits."
+    case two (side-by-side 7 5 100 9 6 101 ++ steps 1 0) (call (step 1)) (wait 18) ∷
+    []
+
+-- ---- more cases: what document 01 does not star, and what nothing else pins
+
+pub others : List Case
+others =
+    -- "The fitter, at open, in order: 1 node table length; 2 reading table length; 3 stations; 4 event limit."
+    opens 0 0 0 0 (Opening.Refused NodeLength) ∷
+    opens 16 6 1 1 (Opening.Refused NodeLength) ∷
+    opens 40 6 1 1 (Opening.Refused NodeLength) ∷
+    opens 16_400 6 1 1 (Opening.Refused NodeLength) ∷
+    opens 32 0 0 0 (Opening.Refused VersionLength) ∷
+    opens 32 3 1 1 (Opening.Refused VersionLength) ∷
+    opens 32 8 1 1 (Opening.Refused VersionLength) ∷
+    opens 32 12_291 1 1 (Opening.Refused VersionLength) ∷
+    opens 32 6 0 0 (Opening.Refused ProcessCount) ∷
+    opens 32 6 9 1 (Opening.Refused ProcessCount) ∷
+    opens 32 6 1 0 (Opening.Refused EventLimit) ∷
+    opens 32 6 1 1_000_000_001 (Opening.Refused EventLimit) ∷
+    opens 32 6 1 1 Opening.Opened ∷
+    opens 16_384 12_288 8 1_000_000_000 Opening.Opened ∷
+    -- "Opening zeroes both tables and sets word 2 of node 0 to 5."; a refusal "changes no lent word"
+    case (lent 32 6 1 1) [] tables (words (0 ∷ 0 ∷ 5 ∷ replicate 35 0)) ∷
+    case (lent 32 6 1 0) [] tables (words (replicate 38 77)) ∷
+    -- "10 closed state": before all else, in every call
+    case (fit 0 0 0 0) [] (call (startGet 0 0)) (no-start Corrupt) ∷
+    case (fit 0 0 0 0) [] (call (startPut 0 0 0 0 0)) (no-start Corrupt) ∷
+    case (fit 0 0 0 0) [] (call (step 0)) (no-step Corrupt) ∷
+    case (fit 0 0 0 0) [] (call (look 0 0)) (no-look Corrupt) ∷
+    case (fit 0 0 0 0) [] inspect (inspected (Inspecting.Refused Corrupt)) ∷
+    case (fit 0 0 0 0) [] (status 0) (stands (Status.Refused Corrupt)) ∷
+    -- 10 "at a step a tally of more or fewer words than there are counts"
+    case (with-tally one (replicate 6 0)) (get 0 7) (call (step 0)) (no-step Corrupt) ∷
+    case (with-tally one (replicate 8 0)) (get 0 7) (call (step 0)) (no-step Corrupt) ∷
+    -- "Start: 10, 5, 6, 7, 9."
+    case one [] (call (startGet 1 0)) (no-start NoProcess) ∷
+    case one (get 0 7) (call (startGet 0 0)) (no-start BadKey) ∷
+    case (fit 2 3 2 1) (get 0 7) (call (startGet 0 7)) (no-start Busy) ∷
+    case (fit 2 3 2 1) (get 0 7) (call (startGet 1 7)) (no-start Spent) ∷
+    -- "6 tray 0 or 4,294,967,295"; "Tray 1 and 4,294,967,294 start."
+    case one [] (call (startPut 0 0 5 100 1)) (no-start BadKey) ∷
+    case one [] (call (startPut 0 1 5 100 1)) (started (Starting.Started 1)) ∷
+    case one [] (call (startPut 0 4_294_967_294 5 100 1)) (started (Starting.Started 1)) ∷
+    case one [] (call (startPut 0 4_294_967_295 5 100 1)) (no-start BadKey) ∷
+    case one [] (call (startGet 0 1)) (started (Starting.Started 1)) ∷
+    case one [] (call (startGet 0 4_294_967_294)) (started (Starting.Started 1)) ∷
+    case one [] (call (startGet 0 4_294_967_295)) (no-start BadKey) ∷
+    -- "Step: 10, 5, 8, 9, 11."; "Limit 1: the start is tick 1, the step is refused 9."
+    case one [] (call (step 1)) (no-step NoProcess) ∷
+    case (fit 2 3 2 1) (get 0 7) (call (step 1)) (no-step NoCall) ∷
+    case (fit 2 3 1 1) [] (call (startGet 0 7)) (started (Starting.Started 1)) ∷
+    case (fit 2 3 1 1) (get 0 7) (call (step 0)) (no-step Spent) ∷
+    -- the words of both tables: one node of top 1 and its version, idle; the lock of process 1, "station number plus 1";
+    -- and a second version, whose previous place is 1
+    case (fit 1 1 1 400) (startPut 0 7 5 100 2 ∷ steps 16 0) tables
+    (words (0 ∷ 0 ∷ 5 ∷ 0 ∷ 1 ∷ 1 ∷ replicate 10 0 ++ (7 ∷ 1 ∷ 1 ∷ replicate 16 0) ++ (5 ∷ 100 ∷ 0 ∷ []))) ∷
+    case (fit 1 1 2 400) (startPut 1 7 5 100 2 ∷ steps 8 1) tables
+    (words (0 ∷ 0 ∷ 5 ∷ replicate 7 0 ++ (2 ∷ replicate 27 0))) ∷
+    case (fit 1 2 1 400) (put 11 7 5 100 ++ put 11 7 6 100) tables
+    (words (0 ∷ 0 ∷ 5 ∷ 0 ∷ 1 ∷ replicate 11 0 ++ (7 ∷ 2 ∷ replicate 17 0) ++ (5 ∷ 100 ∷ 0 ∷ 6 ∷ 100 ∷ 1 ∷ []))) ∷
+    -- "Two puts of one new tray: one new, one added or too old": the second finds the tray under the lock
+    case two (side-by-side 7 5 100 7 6 99 ++ steps 3 0) (call (step 0)) (done Put New 5 100 1 19 20) ∷
+    case two (side-by-side 7 5 100 7 6 99 ++ steps 4 0 ++ steps 3 1) (call (step 1)) (done Put TooOld 6 99 2 23 24) ∷
+    case two (side-by-side 7 5 100 7 6 100 ++ steps 4 0 ++ steps 3 1) (call (step 1)) (done Put Added 6 100 2 23 24) ∷
+    -- slip "not reading the link again under the lock (loses a tray)": tray 9 finds 7 in its way, and goes behind it
+    case two (side-by-side 7 5 100 9 6 101 ++ steps 4 0 ++ steps 6 1) (call (step 1)) (done Put New 6 101 2 26 27) ∷
+    case two both inspect (inspected Inspecting.Sound) ∷
+    case two both (call (look 7 0)) (shows 5 100) ∷
+    case two both (call (look 9 0)) (shows 6 101) ∷
+    -- slip "locking the tray's own node for an update, when its predecessor's lock is the right one"
+    case two (put 11 7 5 100 ++ side-by-side 7 6 100 3 8 100 ++ steps 1 0) (call (step 1)) (wait 30) ∷
+    -- slip "linking the top level first": the tray is found as soon as its put has taken effect
+    case two (startPut 0 7 5 100 0 ∷ steps 10 0 ++ (startGet 1 7 ∷ steps 6 1)) (call (step 1))
+    (done Get Found 5 100 12 19 19) ∷
+    -- slip "ending a get in an upper level": a tray of top 5 is read in the 7th step
+    case one (startPut 0 7 5 100 0 ∷ steps 36 0 ++ get 5 7) (call (step 0)) (on 44) ∷
+    case one (startPut 0 7 5 100 0 ∷ steps 36 0 ++ get 6 7) (call (step 0)) (done Get Found 5 100 38 45 45) ∷
+    -- the last line of the sheet that document 01 prints; "Look: 10, 6, 12, 11, 13", and the older versions
+    case (fit 2 3 1 40) (get 6 7) (call (look 7 0)) (no-look NoKey) ∷
+    case one [] (call (look 0 0)) (no-look BadKey) ∷
+    case one [] (call (look 4_294_967_295 0)) (no-look BadKey) ∷
+    case one thrice (call (look 7 0)) (shows 8 101) ∷
+    case one thrice (call (look 7 1)) (shows 6 100) ∷
+    case one thrice (call (look 7 2)) (shows 5 100) ∷
+    case one thrice (call (look 7 3)) (no-look NoVersion) ∷
+    -- "A station's standing is idle, or kind, start tick and effect tick (0 before effect)."
+    case one [] (status 0) (stands Status.Idle) ∷
+    case one (put 11 7 5 100) (status 0) (stands Status.Idle) ∷
+    case one (get 5 7) (status 0) (stands (Status.Running Get 1 0)) ∷
+    case one [] (status 1) (stands (Status.Refused NoProcess)) ∷
+    -- "Inspection: 10, 7."
+    case one [] inspect (inspected Inspecting.Sound) ∷
+    case one (put 11 7 5 100 ++ (startPut 0 3 6 100 8 ∷ steps 26 0) ++ put 12 7 6 100) inspect
+    (inspected Inspecting.Sound) ∷
+    case two (get 6 7 ++ (startGet 1 7 ∷ [])) inspect (inspected (Inspecting.Refused Busy)) ∷
+    -- "There are seven counts, one an answer.", in the ledger's order: 5 too old, 4 readings full, 3 added, 2 trays full,
+    -- 1 new, 6 found, 7 none
+    case (fit 1 4 1 400)
+    (times 7 (get 6 7) ++ times 4 (put 11 7 5 100) ++ times 4 (put 11 7 5 101) ++ times 5 (put 11 7 5 99)
+    ++ times 2 (put 12 8 5 100) ++ times 6 (get 7 7))
+    tally (words (5 ∷ 4 ∷ 3 ∷ 2 ∷ 1 ∷ 6 ∷ 7 ∷ [])) ∷
+    -- "a count at 4,294,967,295 stays"
+    case (with-tally one (replicate 6 0 ++ (4_294_967_294 ∷ []))) (get 6 7) tally
+    (words (replicate 6 0 ++ (4_294_967_295 ∷ []))) ∷
+    case (with-tally one (replicate 6 0 ++ (4_294_967_295 ∷ []))) (get 6 7) tally
+    (words (replicate 6 0 ++ (4_294_967_295 ∷ []))) ∷
+    -- what the observer of demand 3 writes down: 28 events, 3 starts, 1 finished call, 2 looks, no fault; and the ledger
+    -- fed with the two calls that took effect
+    case two mixed observer (words (28 ∷ 3 ∷ 1 ∷ 2 ∷ 0 ∷ [])) ∷
+    case two mixed ledger (lists (entry 7 5 100 ∷ entry 9 6 101 ∷ [])) ∷
+    []
+
+-- ---- the table
+
+pub cases : List Case
+unfolding starred others
+cases = starred ++ others
+
+-- every case says what is expected of it
+pub table : map said cases ≡ map (λ (c : Case). c .expected) cases
+unfolding said cases
+table = refl
