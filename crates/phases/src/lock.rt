@@ -1,0 +1,166 @@
+// Lock, check and release: the steps that take and free a lock.
+ghost use mathlib.Core.Path.{_≡_};
+ghost use mathlib.Core.List.{List};
+ghost use Prim.Native.Nat.{ℕ};
+ghost use Rattle.phases.specs.Types.{Counts};
+ghost use Rattle.model.specs.Numbers.{noVersion, versionWith};
+ghost use Rattle.model.specs.Phases.{moved, lockOf, checked, checkOf, isNew, rise, released, releaseOf};
+ghost use Rattle.tables.specs.Room.{LevelRoom, memory};
+ghost use Rattle.phases.specs.Turn.{Ready, nodesIn, refuses};
+use crate::moves::go;
+use model::types::Ahead;
+use model::types::Answer;
+use model::types::Call;
+use model::types::Cursor;
+use model::types::Effect;
+use model::types::Move;
+use model::types::Phase;
+use model::types::Version;
+use tables::nodes::ahead;
+use tables::nodes::lock_at;
+use tables::nodes::set_lock;
+
+// The lock phase.
+pub fn acquire(c: Cursor, holder: u32, nodes: &mut [u32]) -> Move
+    requires { ⌜ LevelRoom (now nodes) (c .level) (c .pred) ⌝ }
+    ensures { λ r. ⌜ ((versions : List ℕ) (counts : Counts) → moved (memory (now (nodes .exit)) versions counts) r ≡ lockOf c holder (memory (now (nodes .entry)) versions counts)) ⌝ }
+{
+    if lock_at(nodes, c.level, c.pred) == 0 {
+        set_lock(nodes, c.level, c.pred, holder);
+        go(c, Phase::Check, c.level, c.pred)
+    } else {
+        Move::Wait
+    }
+}
+
+// The place is right: on to the phase given at level 0, to link above it.
+fn settle(c: Cursor, bottom: Phase) -> Move
+    ensures { λ r. ⌜ r ≡ checked c bottom ⌝ }
+{
+    if c.level == 0 {
+        go(c, bottom, c.level, c.pred)
+    } else {
+        go(c, Phase::Link, c.level, c.pred)
+    }
+}
+
+pub fn check(call: Call, c: Cursor, used: u32, nodes: &mut [u32]) -> Move
+    requires { ⌜ Ready (now nodes) used c ⌝ }
+    ensures { λ r. ⌜ ((versions : List ℕ) (n : ℕ) → moved (nodesIn (now (nodes .exit)) used versions n) r ≡ checkOf call c (nodesIn (now (nodes .entry)) used versions n)) ⌝ }
+{
+    let a = ahead(nodes, used, c.level, c.pred, call.key);
+    match a {
+        Ahead::Unused => Move::Refuse,
+        Ahead::Less(y) => {
+            set_lock(nodes, c.level, c.pred, 0);
+            go(c, Phase::Seek, c.level, y)
+        }
+        Ahead::Equal(_) => settle(c, Phase::Update),
+        Ahead::Past => settle(c, Phase::Make),
+    }
+}
+
+fn is_new(answer: Answer) -> bool
+    ensures { λ r. ⌜ r ≡ isNew answer ⌝ }
+{
+    match answer {
+        Answer::TooOld => false,
+        Answer::VersionsFull => false,
+        Answer::Added => false,
+        Answer::KeysFull => false,
+        Answer::New => true,
+        Answer::Found => false,
+        Answer::None => false,
+    }
+}
+
+// What goes with a put's answer: its own version.
+fn version_with(answer: Answer, own: Version) -> Version
+    ensures { λ r. ⌜ r ≡ versionWith answer own noVersion ⌝ }
+{
+    match answer {
+        Answer::TooOld => own,
+        Answer::VersionsFull => own,
+        Answer::Added => own,
+        Answer::KeysFull => own,
+        Answer::New => own,
+        Answer::Found => Version {
+            value: 0,
+            timestamp: 0,
+        },
+        Answer::None => Version {
+            value: 0,
+            timestamp: 0,
+        },
+    }
+}
+
+// One level up, at the node remembered there.
+fn rise(call: Call, c: Cursor, used: u32, preds: [u32; 6], otherwise: Move) -> Move
+    ensures { λ r. ⌜ ((nodes versions : List ℕ) (n : ℕ) → r ≡ rise call c preds (nodesIn nodes used versions n) otherwise) ⌝ }
+{
+    if 5 < call.top {
+        return Move::Refuse;
+    }
+    if call.top <= c.level {
+        return otherwise;
+    }
+    let up = c.level + 1;
+    let l = up as usize;
+    let pred = preds[l];
+    if used < pred {
+        Move::Refuse
+    } else {
+        go(c, Phase::Seek, up, pred)
+    }
+}
+
+fn released(call: Call, c: Cursor, e: Effect, used: u32, preds: [u32; 6]) -> Move
+    ensures { λ r. ⌜ ((nodes versions : List ℕ) (n : ℕ) → r ≡ released call c e preds (nodesIn nodes used versions n)) ⌝ }
+{
+    let answer = e.answer;
+    let own = Version {
+        value: call.value,
+        timestamp: call.timestamp,
+    };
+    let version = version_with(answer, own);
+    let end = Move::End(answer, version, e.tick);
+    if is_new(answer) {
+        rise(call, c, used, preds, end)
+    } else {
+        end
+    }
+}
+
+fn is_refusal(m: Move) -> bool
+    ensures { λ r. ⌜ r ≡ refuses m ⌝ }
+{
+    match m {
+        Move::Refuse => true,
+        Move::Wait => false,
+        Move::Go(_) => false,
+        Move::Note(_) => false,
+        Move::Commit(_, _) => false,
+        Move::End(_, _, _) => false,
+    }
+}
+
+// The lock is freed, unless the step is refused.
+pub fn release(
+    call: Call,
+    c: Cursor,
+    e: Effect,
+    used: u32,
+    preds: [u32; 6],
+    nodes: &mut [u32],
+) -> Move
+    requires { ⌜ LevelRoom (now nodes) (c .level) (c .pred) ⌝ }
+    ensures { λ r. ⌜ ((versions : List ℕ) (n : ℕ) → moved (nodesIn (now (nodes .exit)) used versions n) r ≡ releaseOf call c e preds (nodesIn (now (nodes .entry)) used versions n)) ⌝ }
+{
+    let m = released(call, c, e, used, preds);
+    if is_refusal(m) {
+        return m;
+    }
+    set_lock(nodes, c.level, c.pred, 0);
+    m
+}

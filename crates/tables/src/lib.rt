@@ -1,0 +1,3 @@
+// The words of the two lent tables. Every read and write of the store goes through these functions.
+pub mod nodes;
+pub mod versions;
