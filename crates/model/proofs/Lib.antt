@@ -1,5 +1,4 @@
 pub mod Bench
-pub mod Slips
 pub mod Starred
 pub mod Laws
 pub mod Tests
