@@ -3,7 +3,7 @@ ghost use mathlib.Core.Path.{_≡_};
 ghost use mathlib.Core.List.{List};
 ghost use Prim.Native.Nat.{ℕ, _≤_};
 ghost use Rattle.model.specs.Layout.{next, withNext, withNode};
-ghost use Rattle.model.specs.Phases.{moved, addVersion, updateNode, updateOf, addNode, makeOf, linkOf};
+ghost use Rattle.model.specs.Phases.{moved, committed, addVersion, updateNode, updateOf, addNode, makeOf, linkOf};
 ghost use Rattle.tables.specs.Room.{NodeRoom, memory};
 ghost use Rattle.phases.specs.Turn.{Ready, Lent, NodeSpare, VersionSpare, nodesIn, leaves};
 use crate::moves::commit;
@@ -47,6 +47,16 @@ fn add_version(
     }
 }
 
+// The put takes effect with an answer that changes no table.
+fn keep(c: Cursor, answer: Answer, counts: Counts) -> Turned
+    ensures { λ r. ⌜ r ≡ (record { mv = committed c (c .made) answer; counts = counts }) ⌝ }
+{
+    Turned {
+        mv: commit(c, c.made, answer),
+        counts,
+    }
+}
+
 // The put on a node whose newest version is in use.
 fn update_node(
     call: Call,
@@ -63,22 +73,13 @@ fn update_node(
     ensures { λ r. ⌜ leaves r (now (nodes .exit)) (now (versions .exit)) ≡ updateNode call c node newest (memory (now (nodes .entry)) (now (versions .entry)) counts) ⌝ }
 {
     if call.timestamp < timestamp_at(versions, newest) {
-        return Turned {
-            mv: commit(c, c.made, Answer::TooOld),
-            counts,
-        };
+        return keep(c, Answer::TooOld, counts);
     }
     if versions_full(versions, counts.versions) {
-        return Turned {
-            mv: commit(c, c.made, Answer::VersionsFull),
-            counts,
-        };
+        return keep(c, Answer::VersionsFull, counts);
     }
     let more = add_version(call, node, counts, nodes, versions);
-    Turned {
-        mv: commit(c, c.made, Answer::Added),
-        counts: more,
-    }
+    keep(c, Answer::Added, more)
 }
 
 // The put on the node that the predecessor's link at level 0 leads to.
@@ -156,16 +157,10 @@ pub fn make(
     ensures { λ r. ⌜ leaves r (now (nodes .exit)) (now (versions .exit)) ≡ makeOf call c (memory (now (nodes .entry)) (now (versions .entry)) counts) ⌝ }
 {
     if nodes_full(nodes, counts.nodes) {
-        return Turned {
-            mv: commit(c, c.made, Answer::KeysFull),
-            counts,
-        };
+        return keep(c, Answer::KeysFull, counts);
     }
     if versions_full(versions, counts.versions) {
-        return Turned {
-            mv: commit(c, c.made, Answer::VersionsFull),
-            counts,
-        };
+        return keep(c, Answer::VersionsFull, counts);
     }
     if 5 < call.top {
         return Turned {

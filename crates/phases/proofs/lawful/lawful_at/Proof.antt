@@ -1,43 +1,32 @@
+-- Each arm of the match gives the definition's case.
 use Rattle.model.specs.Phases.{lawfulAt}
 use borrow.Author.Needs.{needs}
 use Rattle.phases.proofs.lawful.lawful_at.Statement.{statement}
 use Rattle.phases.proofs.lawful.lawful_at.Tie as tie
-use Rattle.phases.proofs.lawful.lawful_at.Reads as reads
-use Rattle.phases.proofs.lawful.lawful_at.Lts as lts
-use Rattle.phases.proofs.lawful.lawful_get.Reads as lawful-get-reads
-use Rattle.phases.proofs.lawful.lawful_put.Reads as lawful-put-reads
 
--- src/lawful.rt:66:23
 enum-told : tie.Need-enum-told
 enum-told c = search needs
 
--- src/lawful.rt:67:22
 enum-told-2 : tie.Need-enum-told-2
 enum-told-2 c = search needs
 
--- src/lawful.rt:67:22
 lawful-put-requires : tie.Need-lawful-put-requires
 lawful-put-requires c κs = search needs
 
--- src/lawful.rt:68:22
 enum-told-3 : tie.Need-enum-told-3
 enum-told-3 c = search needs
 
--- src/lawful.rt:68:22
 lawful-get-requires : tie.Need-lawful-get-requires
 lawful-get-requires c κs = search needs
 
--- src/lawful.rt:62:1
 returns : tie.Need-returns
 unfolding lawfulAt
 returns c = simp (c .enum-told .given .1)
 
--- src/lawful.rt:62:1
 returns-2 : tie.Need-returns-2
 unfolding lawfulAt
 returns-2 c = simp (c .lawful-put .ensures, c .before .enum-told2 .given .1)
 
--- src/lawful.rt:62:1
 returns-3 : tie.Need-returns-3
 unfolding lawfulAt
 returns-3 c = simp (c .lawful-get .ensures, c .before .enum-told3 .given .1)

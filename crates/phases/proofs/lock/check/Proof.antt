@@ -2,81 +2,58 @@ use Rattle.model.specs.Phases.{checkBy, checkOf}
 use borrow.Author.Needs.{needs}
 use Rattle.phases.proofs.lock.check.Statement.{statement}
 use Rattle.phases.proofs.lock.check.Tie as tie
-use Rattle.phases.proofs.lock.check.Reads as reads
-use Rattle.phases.proofs.lock.check.Lts as lts
-use Rattle.phases.proofs.lock.settle.Reads as settle-reads
-use Rattle.phases.proofs.moves.go.Reads as go-reads
-use Rattle.tables.proofs.nodes.ahead.Reads as ahead-reads
-use Rattle.tables.proofs.nodes.set_lock.Reads as set-lock-reads
 
--- src/lock.rt:42:9
 ahead-requires : tie.Need-ahead-requires
 ahead-requires c κs = search needs
 
--- src/lock.rt:44:26
 enum-told : tie.Need-enum-told
 enum-told c = search needs
 
--- src/lock.rt:45:21
 enum-known-a : tie.Need-enum-known-a
 enum-known-a c = search needs
 
--- src/lock.rt:46:13
 set-lock-requires : tie.Need-set-lock-requires
 set-lock-requires c κs = search needs
 
--- src/lock.rt:47:13
 go-requires : tie.Need-go-requires
 go-requires c κs = search needs
 
--- src/lock.rt:49:38
 enum-told-2 : tie.Need-enum-told-2
 enum-told-2 c = search needs
 
--- src/lock.rt:49:28
 settle-requires : tie.Need-settle-requires
 settle-requires c κs = search needs
 
--- src/lock.rt:50:34
 enum-told-3 : tie.Need-enum-told-3
 enum-told-3 c = search needs
 
--- src/lock.rt:50:24
 settle-requires-2 : tie.Need-settle-requires-2
 settle-requires-2 c κs = search needs
 
--- src/lock.rt:38:1
 same-length : tie.Need-same-length
 same-length c = search needs
 
--- src/lock.rt:38:1
 returns : tie.Need-returns
 unfolding checkOf checkBy
 returns c = λ vs n. simp (c .enum-told .given .1, ← c .before .before .ahead .ensures)
 
--- src/lock.rt:38:1
 same-length-2 : tie.Need-same-length-2
 same-length-2 c = search needs
 
--- src/lock.rt:38:1
 returns-2 : tie.Need-returns-2
 unfolding checkOf checkBy
 returns-2 c = λ vs n. simp (c .go .ensures, c .before .before .before .set-lock .ensures, c .before .before .before .before .before .before .a .given .1, ← c .before .before .before .before .before .before .before .before .ahead .ensures)
 
--- src/lock.rt:38:1
 same-length-3 : tie.Need-same-length-3
 same-length-3 c = search needs
 
--- src/lock.rt:38:1
 returns-3 : tie.Need-returns-3
 unfolding checkOf checkBy
 returns-3 c = λ vs n. simp (c .settle .ensures, c .before .enum-told2 .given .1, ← c .before .before .before .ahead .ensures)
 
--- src/lock.rt:38:1
 same-length-4 : tie.Need-same-length-4
 same-length-4 c = search needs
 
--- src/lock.rt:38:1
 returns-4 : tie.Need-returns-4
 unfolding checkOf checkBy
 returns-4 c = λ vs n. simp (c .settle2 .ensures, c .before .enum-told3 .given .1, ← c .before .before .before .ahead .ensures)

@@ -1,70 +1,55 @@
+-- Each arm of the match gives the definition's case.
 use Rattle.model.specs.Phases.{isNew}
 use Rattle.model.specs.Numbers.{placeOf}
 use borrow.Author.Needs.{needs}
 use Rattle.phases.proofs.lock.is_new.Statement.{statement}
 use Rattle.phases.proofs.lock.is_new.Tie as tie
-use Rattle.phases.proofs.lock.is_new.Reads as reads
-use Rattle.phases.proofs.lock.is_new.Lts as lts
 
--- src/lock.rt:58:27
 enum-told : tie.Need-enum-told
 enum-told c = search needs
 
--- src/lock.rt:59:33
 enum-told-2 : tie.Need-enum-told-2
 enum-told-2 c = search needs
 
--- src/lock.rt:60:26
 enum-told-3 : tie.Need-enum-told-3
 enum-told-3 c = search needs
 
--- src/lock.rt:61:29
 enum-told-4 : tie.Need-enum-told-4
 enum-told-4 c = search needs
 
--- src/lock.rt:62:24
 enum-told-5 : tie.Need-enum-told-5
 enum-told-5 c = search needs
 
--- src/lock.rt:63:26
 enum-told-6 : tie.Need-enum-told-6
 enum-told-6 c = search needs
 
--- src/lock.rt:64:25
 enum-told-7 : tie.Need-enum-told-7
 enum-told-7 c = search needs
 
--- src/lock.rt:54:1
 returns : tie.Need-returns
 unfolding isNew placeOf
 returns c = simp (c .enum-told .given .1)
 
--- src/lock.rt:54:1
 returns-2 : tie.Need-returns-2
 unfolding isNew placeOf
 returns-2 c = simp (c .enum-told2 .given .1)
 
--- src/lock.rt:54:1
 returns-3 : tie.Need-returns-3
 unfolding isNew placeOf
 returns-3 c = simp (c .enum-told3 .given .1)
 
--- src/lock.rt:54:1
 returns-4 : tie.Need-returns-4
 unfolding isNew placeOf
 returns-4 c = simp (c .enum-told4 .given .1)
 
--- src/lock.rt:54:1
 returns-5 : tie.Need-returns-5
 unfolding isNew placeOf
 returns-5 c = simp (c .enum-told5 .given .1)
 
--- src/lock.rt:54:1
 returns-6 : tie.Need-returns-6
 unfolding isNew placeOf
 returns-6 c = simp (c .enum-told6 .given .1)
 
--- src/lock.rt:54:1
 returns-7 : tie.Need-returns-7
 unfolding isNew placeOf
 returns-7 c = simp (c .enum-told7 .given .1)

@@ -1,36 +1,26 @@
+-- The lock is freed unless the move is a refusal.
 use Rattle.model.specs.Phases.{releaseOf}
 use Rattle.phases.proofs.Laws.{freed-is}
 use borrow.Author.Needs.{needs}
 use Rattle.phases.proofs.lock.release.Statement.{statement}
 use Rattle.phases.proofs.lock.release.Tie as tie
-use Rattle.phases.proofs.lock.release.Reads as reads
-use Rattle.phases.proofs.lock.release.Lts as lts
-use Rattle.phases.proofs.lock.is_refusal.Reads as is-refusal-reads
-use Rattle.phases.proofs.lock.released.Reads as released-reads
-use Rattle.tables.proofs.nodes.set_lock.Reads as set-lock-reads
 
--- src/lock.rt:134:9
 released-requires : tie.Need-released-requires
 released-requires c κs = search needs
 
--- src/lock.rt:135:8
 is-refusal-requires : tie.Need-is-refusal-requires
 is-refusal-requires c κs = search needs
 
--- src/lock.rt:136:9
 returns : tie.Need-returns
 unfolding releaseOf
 returns c = λ vs n. simp (freed-is, ← c .before .before .released .ensures, ← c .before .is-refusal .ensures, c .if1 .taken)
 
--- src/lock.rt:138:5
 set-lock-requires : tie.Need-set-lock-requires
 set-lock-requires c κs = search needs
 
--- src/lock.rt:130:1
 same-length : tie.Need-same-length
 same-length c = search needs
 
--- src/lock.rt:130:1
 returns-2 : tie.Need-returns-2
 unfolding releaseOf
 returns-2 c = λ vs n. simp (freed-is, c .before .before .set-lock .ensures, ← c .before .before .before .before .before .before .released .ensures, ← c .before .before .before .before .before .is-refusal .ensures, c .before .before .before .before .if1 .left)

@@ -3,46 +3,34 @@ use borrow.Author.Tests.{le-leb, le-ltb, lt-leb, lt-ltb}
 use borrow.Author.Needs.{needs}
 use Rattle.phases.proofs.lock.rise.Statement.{statement}
 use Rattle.phases.proofs.lock.rise.Tie as tie
-use Rattle.phases.proofs.lock.rise.Reads as reads
-use Rattle.phases.proofs.lock.rise.Lts as lts
-use Rattle.phases.proofs.moves.go.Reads as go-reads
 
--- src/lock.rt:88:9
 returns : tie.Need-returns
 unfolding rise
 returns c = λ ns vs n. simp (lt-ltb _ _ (c .if1 .taken))
 
--- src/lock.rt:91:9
 returns-2 : tie.Need-returns-2
 unfolding rise
 returns-2 c = λ ns vs n. simp (le-leb _ _ (c .if2 .taken), le-ltb _ _ (c .before .before .before .if1 .left))
 
--- src/lock.rt:93:14
 add-up : tie.Need-add-up
 add-up c = search needs
 
--- src/lock.rt:94:13
 cast-l : tie.Need-cast-l
 cast-l c = search needs
 
--- src/lock.rt:95:16
 mul-pred : tie.Need-mul-pred
 mul-pred c = search needs
 
--- src/lock.rt:95:16
 array-read-pred : tie.Need-array-read-pred
 array-read-pred c = search needs
 
--- src/lock.rt:99:9
 go-requires : tie.Need-go-requires
 go-requires c κs = search needs
 
--- src/lock.rt:84:1
 returns-3 : tie.Need-returns-3
 unfolding rise
 returns-3 c = λ ns vs n. simp (lt-ltb _ _ (c .if3 .taken), lt-leb _ _ (c .before .before .if2 .left), le-ltb _ _ (c .before .before .before .before .before .if1 .left))
 
--- src/lock.rt:84:1
 returns-4 : tie.Need-returns-4
 unfolding rise
 returns-4 c = λ ns vs n. simp (c .go .ensures, le-ltb _ _ (c .before .if3 .left), lt-leb _ _ (c .before .before .before .if2 .left), le-ltb _ _ (c .before .before .before .before .before .before .if1 .left))

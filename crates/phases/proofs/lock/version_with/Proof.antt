@@ -1,62 +1,46 @@
 use borrow.Author.Needs.{needs}
 use Rattle.phases.proofs.lock.version_with.Statement.{statement}
 use Rattle.phases.proofs.lock.version_with.Tie as tie
-use Rattle.phases.proofs.lock.version_with.Reads as reads
-use Rattle.phases.proofs.lock.version_with.Lts as lts
 
--- src/lock.rt:72:27
 enum-told : tie.Need-enum-told
 enum-told c = search needs
 
--- src/lock.rt:73:33
 enum-told-2 : tie.Need-enum-told-2
 enum-told-2 c = search needs
 
--- src/lock.rt:74:26
 enum-told-3 : tie.Need-enum-told-3
 enum-told-3 c = search needs
 
--- src/lock.rt:75:29
 enum-told-4 : tie.Need-enum-told-4
 enum-told-4 c = search needs
 
--- src/lock.rt:76:24
 enum-told-5 : tie.Need-enum-told-5
 enum-told-5 c = search needs
 
--- src/lock.rt:77:26
 enum-told-6 : tie.Need-enum-told-6
 enum-told-6 c = search needs
 
--- src/lock.rt:78:25
 enum-told-7 : tie.Need-enum-told-7
 enum-told-7 c = search needs
 
--- src/lock.rt:68:1
 returns : tie.Need-returns
 returns c = search needs
 
--- src/lock.rt:68:1
 returns-2 : tie.Need-returns-2
 returns-2 c = search needs
 
--- src/lock.rt:68:1
 returns-3 : tie.Need-returns-3
 returns-3 c = search needs
 
--- src/lock.rt:68:1
 returns-4 : tie.Need-returns-4
 returns-4 c = search needs
 
--- src/lock.rt:68:1
 returns-5 : tie.Need-returns-5
 returns-5 c = search needs
 
--- src/lock.rt:68:1
 returns-6 : tie.Need-returns-6
 returns-6 c = simp (c .enum-told6 .given .1)
 
--- src/lock.rt:68:1
 returns-7 : tie.Need-returns-7
 returns-7 c = simp (c .enum-told7 .given .1)
 

@@ -1,40 +1,28 @@
-use Rattle.tables.proofs.Tests.{and-iff, leb-iff}
 use Rattle.model.specs.Phases.{addLink, linkOf}
+use Rattle.tables.proofs.Tests.{and-iff, leb-iff}
 use borrow.Author.Needs.{needs}
 use Rattle.phases.proofs.put.link.Statement.{statement}
 use Rattle.phases.proofs.put.link.Tie as tie
-use Rattle.phases.proofs.put.link.Reads as reads
-use Rattle.phases.proofs.put.link.Lts as lts
-use Rattle.phases.proofs.moves.go.Reads as go-reads
-use Rattle.tables.proofs.nodes.next_at.Reads as next-at-reads
-use Rattle.tables.proofs.nodes.set_next.Reads as set-next-reads
 
--- src/put.rt:116:13
 next-at-requires : tie.Need-next-at-requires
 next-at-requires c κs = search needs
 
--- src/put.rt:117:9
 set-next-requires : tie.Need-set-next-requires
 set-next-requires c κs = let f = simp (and-iff, leb-iff) at (c .before .before .before .if1 .taken) in search needs
 
--- src/put.rt:118:9
 set-next-requires-2 : tie.Need-set-next-requires-2
 set-next-requires-2 c κs = search needs
 
--- src/put.rt:119:9
 go-requires : tie.Need-go-requires
 go-requires c κs = search needs
 
--- src/put.rt:109:1
 same-length : tie.Need-same-length
 same-length c = search needs
 
--- src/put.rt:109:1
 returns : tie.Need-returns
 unfolding linkOf addLink
 returns c = λ vs n. simp (c .go .ensures, c .before .before .before .set-next2 .ensures, c .before .before .before .before .before .before .before .set-next .ensures, c .before .before .before .before .before .before .before .before .before .next-at .ensures, c .before .before .before .before .before .before .before .before .before .before .before .if1 .taken)
 
--- src/put.rt:109:1
 returns-2 : tie.Need-returns-2
 unfolding linkOf addLink
 returns-2 c = λ vs n. simp (c .if1 .left)

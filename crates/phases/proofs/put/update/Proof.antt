@@ -3,51 +3,36 @@ use Rattle.tables.proofs.Tests.{and-iff, leb-iff}
 use borrow.Author.Needs.{needs}
 use Rattle.phases.proofs.put.update.Statement.{statement}
 use Rattle.phases.proofs.put.update.Tie as tie
-use Rattle.phases.proofs.put.update.Reads as reads
-use Rattle.phases.proofs.put.update.Lts as lts
-use Rattle.phases.proofs.put.update_node.Reads as update-node-reads
-use Rattle.tables.proofs.nodes.newest_at.Reads as newest-at-reads
-use Rattle.tables.proofs.nodes.next_at.Reads as next-at-reads
 
--- src/put.rt:56:9
 next-at-requires : tie.Need-next-at-requires
 next-at-requires c κs = search needs
 
--- src/put.rt:60:13
 newest-at-requires : tie.Need-newest-at-requires
 newest-at-requires c κs = let f = simp (and-iff, leb-iff) at (c .before .if1 .taken) in search needs
 
--- src/put.rt:64:13
 update-node-requires : tie.Need-update-node-requires
 update-node-requires c κs = let f = simp (and-iff, leb-iff) at (c .before .before .if2 .taken) in let g = simp (and-iff, leb-iff) at (c .before .before .before .before .before .if1 .taken) in search needs
 
--- src/put.rt:64:13
 same-length : tie.Need-same-length
 same-length c = search needs
 
--- src/put.rt:64:13
 same-length-2 : tie.Need-same-length-2
 same-length-2 c = search needs
 
--- src/put.rt:64:13
 returns : tie.Need-returns
 unfolding updateOf updateAt
 returns c = simp (c .before .before .before .before .update-node .ensures, c .before .before .before .before .before .before .before .if2 .taken, ← c .before .before .before .before .before .before .before .before .newest-at .ensures, c .before .before .before .before .before .before .before .before .before .before .if1 .taken, ← c .before .before .before .before .before .before .before .before .before .before .before .next-at .ensures)
 
--- src/put.rt:51:1
 same-length-3 : tie.Need-same-length-3
 same-length-3 c = search needs
 
--- src/put.rt:51:1
 returns-2 : tie.Need-returns-2
 unfolding updateOf updateAt
 returns-2 c = simp (c .if2 .left, ← c .before .newest-at .ensures, c .before .before .before .if1 .taken, ← c .before .before .before .before .next-at .ensures)
 
--- src/put.rt:51:1
 same-length-4 : tie.Need-same-length-4
 same-length-4 c = search needs
 
--- src/put.rt:51:1
 returns-3 : tie.Need-returns-3
 unfolding updateOf updateAt
 returns-3 c = simp (c .if1 .left, ← c .before .next-at .ensures)

@@ -3,59 +3,44 @@ use borrow.Author.Tests.{eq-eqb, ne-eqb}
 use borrow.Author.Needs.{needs}
 use Rattle.phases.proofs.search.descend.Statement.{statement}
 use Rattle.phases.proofs.search.descend.Tie as tie
-use Rattle.phases.proofs.search.descend.Reads as reads
-use Rattle.phases.proofs.search.descend.Lts as lts
-use Rattle.phases.proofs.moves.note.Reads as note-reads
 
--- src/search.rt:21:27
 enum-told : tie.Need-enum-told
 enum-told c = search needs
 
--- src/search.rt:22:34
 enum-told-2 : tie.Need-enum-told-2
 enum-told-2 c = search needs
 
--- src/search.rt:22:26
 note-requires : tie.Need-note-requires
 note-requires c κs = search needs
 
--- src/search.rt:24:20
 enum-told-3 : tie.Need-enum-told-3
 enum-told-3 c = search needs
 
--- src/search.rt:27:21
 note-requires-2 : tie.Need-note-requires-2
 note-requires-2 c κs = search needs
 
--- src/search.rt:32:30
 sub-note : tie.Need-sub-note
 sub-note c = search needs
 
--- src/search.rt:32:9
 note-requires-3 : tie.Need-note-requires-3
 note-requires-3 c κs = search needs
 
--- src/search.rt:15:1
 returns : tie.Need-returns
 unfolding descend walked
 returns c = simp (c .enum-told .given .1, eq-eqb _ _ (c .before .before .if1 .taken))
 
--- src/search.rt:15:1
 returns-2 : tie.Need-returns-2
 unfolding descend walked
 returns-2 c = simp (c .note .ensures, c .before .enum-told2 .given .1, eq-eqb _ _ (c .before .before .before .if1 .taken))
 
--- src/search.rt:15:1
 returns-3 : tie.Need-returns-3
 unfolding descend walked
 returns-3 c = simp (eq-eqb _ _ (c .if2 .taken), c .before .enum-told3 .given .1, eq-eqb _ _ (c .before .before .before .if1 .taken))
 
--- src/search.rt:15:1
 returns-4 : tie.Need-returns-4
 unfolding descend walked
 returns-4 c = simp (c .note2 .ensures, ne-eqb _ _ (c .before .if2 .left), c .before .before .enum-told3 .given .1, eq-eqb _ _ (c .before .before .before .before .if1 .taken))
 
--- src/search.rt:15:1
 returns-5 : tie.Need-returns-5
 unfolding descend walked
 returns-5 c = simp (c .note3 .ensures, ne-eqb _ _ (c .before .before .if1 .left))

@@ -2,59 +2,43 @@ use Rattle.model.specs.Phases.{seekBy, seekOf}
 use borrow.Author.Needs.{needs}
 use Rattle.phases.proofs.search.seek.Statement.{statement}
 use Rattle.phases.proofs.search.seek.Tie as tie
-use Rattle.phases.proofs.search.seek.Reads as reads
-use Rattle.phases.proofs.search.seek.Lts as lts
-use Rattle.phases.proofs.moves.go.Reads as go-reads
-use Rattle.tables.proofs.nodes.ahead.Reads as ahead-reads
 
--- src/search.rt:69:9
 ahead-requires : tie.Need-ahead-requires
 ahead-requires c κs = search needs
 
--- src/search.rt:71:26
 enum-told : tie.Need-enum-told
 enum-told c = search needs
 
--- src/search.rt:72:21
 enum-known-a : tie.Need-enum-known-a
 enum-known-a c = search needs
 
--- src/search.rt:72:27
 go-requires : tie.Need-go-requires
 go-requires c κs = search needs
 
--- src/search.rt:73:34
 enum-told-2 : tie.Need-enum-told-2
 enum-told-2 c = search needs
 
--- src/search.rt:73:28
 go-requires-2 : tie.Need-go-requires-2
 go-requires-2 c κs = search needs
 
--- src/search.rt:74:30
 enum-told-3 : tie.Need-enum-told-3
 enum-told-3 c = search needs
 
--- src/search.rt:74:24
 go-requires-3 : tie.Need-go-requires-3
 go-requires-3 c κs = search needs
 
--- src/search.rt:65:1
 returns : tie.Need-returns
 unfolding seekOf seekBy
 returns c = λ vs n. simp (c .enum-told .given .1, ← c .before .before .ahead .ensures)
 
--- src/search.rt:65:1
 returns-2 : tie.Need-returns-2
 unfolding seekOf seekBy
 returns-2 c = λ vs n. simp (c .go .ensures, c .before .before .a .given .1, ← c .before .before .before .before .ahead .ensures)
 
--- src/search.rt:65:1
 returns-3 : tie.Need-returns-3
 unfolding seekOf seekBy
 returns-3 c = λ vs n. simp (c .go2 .ensures, c .before .enum-told2 .given .1, ← c .before .before .before .ahead .ensures)
 
--- src/search.rt:65:1
 returns-4 : tie.Need-returns-4
 unfolding seekOf seekBy
 returns-4 c = λ vs n. simp (c .go3 .ensures, c .before .enum-told3 .given .1, ← c .before .before .before .ahead .ensures)

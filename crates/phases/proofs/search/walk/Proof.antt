@@ -2,60 +2,43 @@ use Rattle.model.specs.Phases.{walkBy, walkOf}
 use borrow.Author.Needs.{needs}
 use Rattle.phases.proofs.search.walk.Statement.{statement}
 use Rattle.phases.proofs.search.walk.Tie as tie
-use Rattle.phases.proofs.search.walk.Reads as reads
-use Rattle.phases.proofs.search.walk.Lts as lts
-use Rattle.phases.proofs.moves.go.Reads as go-reads
-use Rattle.phases.proofs.search.descend.Reads as descend-reads
-use Rattle.tables.proofs.nodes.ahead.Reads as ahead-reads
 
--- src/search.rt:40:9
 ahead-requires : tie.Need-ahead-requires
 ahead-requires c κs = search needs
 
--- src/search.rt:42:26
 enum-told : tie.Need-enum-told
 enum-told c = search needs
 
--- src/search.rt:43:21
 enum-known-a : tie.Need-enum-known-a
 enum-known-a c = search needs
 
--- src/search.rt:43:27
 go-requires : tie.Need-go-requires
 go-requires c κs = search needs
 
--- src/search.rt:44:22
 enum-known-a-2 : tie.Need-enum-known-a-2
 enum-known-a-2 c = search needs
 
--- src/search.rt:44:28
 descend-requires : tie.Need-descend-requires
 descend-requires c κs = search needs
 
--- src/search.rt:45:24
 enum-told-2 : tie.Need-enum-told-2
 enum-told-2 c = search needs
 
--- src/search.rt:45:24
 descend-requires-2 : tie.Need-descend-requires-2
 descend-requires-2 c κs = search needs
 
--- src/search.rt:36:1
 returns : tie.Need-returns
 unfolding walkOf walkBy
 returns c = λ vs n. simp (c .enum-told .given .1, ← c .before .before .ahead .ensures)
 
--- src/search.rt:36:1
 returns-2 : tie.Need-returns-2
 unfolding walkOf walkBy
 returns-2 c = λ vs n. simp (c .go .ensures, c .before .before .a .given .1, ← c .before .before .before .before .ahead .ensures)
 
--- src/search.rt:36:1
 returns-3 : tie.Need-returns-3
 unfolding walkOf walkBy
 returns-3 c = λ vs n. simp (c .descend .ensures, c .before .before .a2 .given .1, ← c .before .before .before .before .ahead .ensures)
 
--- src/search.rt:36:1
 returns-4 : tie.Need-returns-4
 unfolding walkOf walkBy
 returns-4 c = λ vs n. simp (c .descend2 .ensures, c .before .enum-told2 .given .1, ← c .before .before .before .ahead .ensures)

@@ -1,36 +1,27 @@
+-- The test of refusal 11 gives what the phases ask for.
 use Rattle.model.specs.Phases.{turnOf}
 use Rattle.phases.proofs.Laws.{lawful-facts}
 use mathlib.Core.Path.{sym, _∙_}
 use borrow.Author.Needs.{needs}
 use Rattle.phases.proofs.turn.turn.Statement.{statement}
 use Rattle.phases.proofs.turn.turn.Tie as tie
-use Rattle.phases.proofs.turn.turn.Reads as reads
-use Rattle.phases.proofs.turn.turn.Lts as lts
-use Rattle.phases.proofs.lawful.lawful.Reads as lawful-reads
-use Rattle.phases.proofs.turn.run.Reads as run-reads
 
--- src/turn.rt:59:8
 lawful-requires : tie.Need-lawful-requires
 lawful-requires c κs = search needs
 
--- src/turn.rt:60:9
 run-requires : tie.Need-run-requires
 run-requires c κs = let a = c .before .before .before .before .before .before .args in let f = lawful-facts _ _ (sym (c .before .before .before .lawful .ensures (a .preds) (a .nodes .now) (a .versions .now) (a .counts .versions)) ∙ c .before .before .if1 .taken) in let p = c .before .before .before .before .before .before .pre in search needs
 
--- src/turn.rt:45:1
 same-length : tie.Need-same-length
 same-length c = search needs
 
--- src/turn.rt:45:1
 same-length-2 : tie.Need-same-length-2
 same-length-2 c = search needs
 
--- src/turn.rt:45:1
 returns : tie.Need-returns
 unfolding turnOf
 returns c = let a = c .before .before .before .before .before .before .before .before .before .before .before .args in simp (c .before .before .before .before .run .ensures, ← c .before .before .before .before .before .before .before .before .lawful .ensures (a .preds) (a .nodes .now) (a .versions .now) (a .counts .versions), c .before .before .before .before .before .before .before .if1 .taken)
 
--- src/turn.rt:45:1
 returns-2 : tie.Need-returns-2
 unfolding turnOf
 returns-2 c = let a = c .before .before .before .before .args in simp (← c .before .lawful .ensures (a .preds) (a .nodes .now) (a .versions .now) (a .counts .versions), c .if1 .left)

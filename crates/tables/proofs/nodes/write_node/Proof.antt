@@ -1,3 +1,4 @@
+-- What the writer of one node leaves in its part, said of the whole table.
 use Rattle.tables.proofs.Lists.{part-back}
 use Rattle.model.specs.Layout.{nodeRecord, withNode}
 use mathlib.Core.Path.{refl}
@@ -6,43 +7,31 @@ use Prim.Native.Nat.{_*_}
 use borrow.Author.Needs.{needs}
 use Rattle.tables.proofs.nodes.write_node.Statement.{statement}
 use Rattle.tables.proofs.nodes.write_node.Tie as tie
-use Rattle.tables.proofs.nodes.write_node.Reads as reads
-use Rattle.tables.proofs.nodes.write_node.Lts as lts
-use Rattle.tables.proofs.nodes.fill_node.Reads as fill-node-reads
 
--- src/nodes.rt:107:16
 mul-from : tie.Need-mul-from
 mul-from c = search needs
 
--- src/nodes.rt:108:14
 add-to : tie.Need-add-to
 add-to c = search needs
 
--- src/nodes.rt:109:15
 mul-fill-node : tie.Need-mul-fill-node
 mul-fill-node c = search needs
 
--- src/nodes.rt:109:15
 sub-fill-node : tie.Need-sub-fill-node
 sub-fill-node c = search needs
 
--- src/nodes.rt:109:15
 part-fill-node-start : tie.Need-part-fill-node-start
 part-fill-node-start c = search needs
 
--- src/nodes.rt:109:15
 part-fill-node-end : tie.Need-part-fill-node-end
 part-fill-node-end c = search needs
 
--- src/nodes.rt:109:5
 fill-node-requires : tie.Need-fill-node-requires
 fill-node-requires c κs = search needs
 
--- src/nodes.rt:103:1
 same-length : tie.Need-same-length
 same-length c = search needs
 
--- src/nodes.rt:103:1
 returns : tie.Need-returns
 unfolding withNode
 returns c = let a = c .before .before .before .before .before .args in simp (c .before .before .fill-node .ensures) (part-back (a .nodes .now) (nodeRecord (a .key) (a .version) (a .top) (a .next)) (16 * a .node) 16 refl (omega arith))

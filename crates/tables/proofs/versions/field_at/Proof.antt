@@ -2,26 +2,19 @@ use Rattle.model.specs.Layout.{field}
 use borrow.Author.Needs.{needs}
 use Rattle.tables.proofs.versions.field_at.Statement.{statement}
 use Rattle.tables.proofs.versions.field_at.Tie as tie
-use Rattle.tables.proofs.versions.field_at.Reads as reads
-use Rattle.tables.proofs.versions.field_at.Lts as lts
 
--- src/versions.rt:18:14
 mul-result : tie.Need-mul-result
 mul-result c = search needs
 
--- src/versions.rt:18:14
 add-result : tie.Need-add-result
 add-result c = search needs
 
--- src/versions.rt:18:5
 mul-result-2 : tie.Need-mul-result-2
 mul-result-2 c = search needs
 
--- src/versions.rt:18:5
 shared-slice-read-result : tie.Need-shared-slice-read-result
 shared-slice-read-result c = search needs
 
--- src/versions.rt:11:1
 returns : tie.Need-returns
 unfolding field
 returns c = search needs

@@ -1,28 +1,22 @@
+-- The three stores in a row are the record.
 use Rattle.tables.proofs.Lists.{written-over}
 use mathlib.Core.List.{[], _∷_}
 use borrow.Author.Needs.{needs}
 use Rattle.tables.proofs.versions.fill_version.Statement.{statement}
 use Rattle.tables.proofs.versions.fill_version.Tie as tie
-use Rattle.tables.proofs.versions.fill_version.Reads as reads
-use Rattle.tables.proofs.versions.fill_version.Lts as lts
 
--- src/versions.rt:48:5
 slice-write-part : tie.Need-slice-write-part
 slice-write-part c = search needs
 
--- src/versions.rt:49:5
 slice-write-part-2 : tie.Need-slice-write-part-2
 slice-write-part-2 c = search needs
 
--- src/versions.rt:50:5
 slice-write-part-3 : tie.Need-slice-write-part-3
 slice-write-part-3 c = search needs
 
--- src/versions.rt:44:1
 same-length : tie.Need-same-length
 same-length c = search needs
 
--- src/versions.rt:44:1
 returns : tie.Need-returns
 returns c = let a = c .args in written-over (a .part .now) (a .value ∷ a .timestamp ∷ a .prev ∷ []) (c .pre)
 

@@ -2,14 +2,10 @@ use Rattle.model.specs.Layout.{capacity}
 use borrow.Author.Needs.{needs}
 use Rattle.tables.proofs.versions.versions_full.Statement.{statement}
 use Rattle.tables.proofs.versions.versions_full.Tie as tie
-use Rattle.tables.proofs.versions.versions_full.Reads as reads
-use Rattle.tables.proofs.versions.versions_full.Lts as lts
 
--- src/versions.rt:78:16
 sub-most : tie.Need-sub-most
 sub-most c = search needs
 
--- src/versions.rt:73:1
 returns : tie.Need-returns
 unfolding capacity
 returns c = search needs

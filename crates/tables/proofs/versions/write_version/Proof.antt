@@ -1,3 +1,4 @@
+-- What the writer of one version leaves in its part, said of the whole table.
 use Rattle.tables.proofs.Lists.{part-back}
 use Rattle.model.specs.Layout.{withVersion}
 use mathlib.Core.List.{[], _∷_}
@@ -7,43 +8,31 @@ use Prim.Native.Nat.{_*_}
 use borrow.Author.Needs.{needs}
 use Rattle.tables.proofs.versions.write_version.Statement.{statement}
 use Rattle.tables.proofs.versions.write_version.Tie as tie
-use Rattle.tables.proofs.versions.write_version.Reads as reads
-use Rattle.tables.proofs.versions.write_version.Lts as lts
-use Rattle.tables.proofs.versions.fill_version.Reads as fill-version-reads
 
--- src/versions.rt:58:16
 mul-from : tie.Need-mul-from
 mul-from c = search needs
 
--- src/versions.rt:59:14
 add-to : tie.Need-add-to
 add-to c = search needs
 
--- src/versions.rt:60:18
 mul-fill-version : tie.Need-mul-fill-version
 mul-fill-version c = search needs
 
--- src/versions.rt:60:18
 sub-fill-version : tie.Need-sub-fill-version
 sub-fill-version c = search needs
 
--- src/versions.rt:60:18
 part-fill-version-start : tie.Need-part-fill-version-start
 part-fill-version-start c = search needs
 
--- src/versions.rt:60:18
 part-fill-version-end : tie.Need-part-fill-version-end
 part-fill-version-end c = search needs
 
--- src/versions.rt:60:5
 fill-version-requires : tie.Need-fill-version-requires
 fill-version-requires c κs = search needs
 
--- src/versions.rt:54:1
 same-length : tie.Need-same-length
 same-length c = search needs
 
--- src/versions.rt:54:1
 returns : tie.Need-returns
 unfolding withVersion
 returns c = let a = c .before .before .before .before .before .args in simp (c .before .before .fill-version .ensures) (part-back (a .versions .now) (a .value ∷ a .timestamp ∷ a .prev ∷ []) (3 * a .version) 3 refl (omega arith))
