@@ -1,3 +1,4 @@
+-- Each way through `acquire` is a case of `lockOf`.
 use Rattle.model.specs.Phases.{lockOf}
 use borrow.Author.Tests.{eq-eqb, ne-eqb}
 use borrow.Author.Needs.{needs}

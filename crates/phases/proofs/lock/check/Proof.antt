@@ -1,3 +1,4 @@
+-- Each way through `check` is a case of `checkOf`.
 use Rattle.model.specs.Phases.{checkBy, checkOf}
 use borrow.Author.Needs.{needs}
 use Rattle.phases.proofs.lock.check.Statement.{statement}

@@ -1,3 +1,4 @@
+-- Each way through `released` is a case of `released`.
 use Rattle.model.specs.Phases.{released}
 use borrow.Author.Needs.{needs}
 use Rattle.phases.proofs.lock.released.Statement.{statement}

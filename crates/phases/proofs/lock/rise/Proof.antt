@@ -1,3 +1,4 @@
+-- Each way through `rise` is a case of `rise`.
 use Rattle.model.specs.Phases.{rise}
 use borrow.Author.Tests.{le-leb, le-ltb, lt-leb, lt-ltb}
 use borrow.Author.Needs.{needs}

@@ -1,3 +1,4 @@
+-- `settle` is its definition, word for word.
 use borrow.Author.Tests.{eq-eqb, ne-eqb}
 use borrow.Author.Needs.{needs}
 use Rattle.phases.proofs.lock.settle.Statement.{statement}

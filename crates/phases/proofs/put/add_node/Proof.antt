@@ -1,3 +1,4 @@
+-- Each way through `add_node` is a case of `addNode`.
 use Rattle.model.specs.Phases.{addNode}
 use borrow.Author.Needs.{needs}
 use Rattle.phases.proofs.put.add_node.Statement.{statement}

@@ -1,3 +1,4 @@
+-- Each way through `add_version` is a case of `addVersion`.
 use Rattle.model.specs.Phases.{addVersion}
 use borrow.Author.Needs.{needs}
 use Rattle.phases.proofs.put.add_version.Statement.{statement}

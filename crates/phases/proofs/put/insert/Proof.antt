@@ -1,3 +1,4 @@
+-- `insert` is its definition, word for word.
 use borrow.Author.Needs.{needs}
 use Rattle.phases.proofs.put.insert.Statement.{statement}
 use Rattle.phases.proofs.put.insert.Tie as tie

@@ -1,3 +1,4 @@
+-- `keep` is its definition, word for word.
 use borrow.Author.Needs.{needs}
 use Rattle.phases.proofs.put.keep.Statement.{statement}
 use Rattle.phases.proofs.put.keep.Tie as tie

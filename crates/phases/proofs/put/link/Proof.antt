@@ -1,3 +1,4 @@
+-- Each way through `link` is a case of `linkOf`.
 use Rattle.model.specs.Phases.{addLink, linkOf}
 use Rattle.tables.proofs.Tests.{and-iff, leb-iff}
 use borrow.Author.Needs.{needs}

@@ -1,3 +1,4 @@
+-- Each way through `make` is a case of `makeOf`.
 use Rattle.model.specs.Phases.{makeOf}
 use Rattle.tables.proofs.Tests.{node-room, version-room}
 use mathlib.Core.Path.{sym, _∙_}

@@ -1,3 +1,4 @@
+-- Each way through `update` is a case of `updateOf`.
 use Rattle.model.specs.Phases.{updateAt, updateOf}
 use Rattle.tables.proofs.Tests.{and-iff, leb-iff}
 use borrow.Author.Needs.{needs}

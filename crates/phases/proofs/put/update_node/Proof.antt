@@ -1,3 +1,4 @@
+-- Each way through `update_node` is a case of `updateNode`.
 use Rattle.model.specs.Phases.{updateNode}
 use Rattle.tables.proofs.Tests.{version-room}
 use mathlib.Core.Path.{sym, _∙_}

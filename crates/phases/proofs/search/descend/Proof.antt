@@ -1,3 +1,4 @@
+-- Each way through `descend` is a case of `descend`.
 use Rattle.model.specs.Phases.{descend, walked}
 use borrow.Author.Tests.{eq-eqb, ne-eqb}
 use borrow.Author.Needs.{needs}

@@ -1,3 +1,4 @@
+-- Each way through `read` is a case of `readOf`.
 use Rattle.model.specs.Phases.{readOf}
 use Rattle.tables.proofs.Tests.{and-iff, leb-iff}
 use borrow.Author.Needs.{needs}

@@ -1,3 +1,4 @@
+-- Each way through `nodes_full` is a case of `capacity`.
 use Rattle.model.specs.Layout.{capacity}
 use borrow.Author.Needs.{needs}
 use Rattle.tables.proofs.nodes.nodes_full.Statement.{statement}

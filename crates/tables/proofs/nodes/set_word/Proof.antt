@@ -1,3 +1,4 @@
+-- Each way through `set_word` is a case of `withWord`.
 use Rattle.model.specs.Layout.{withWord}
 use borrow.Author.Needs.{needs}
 use Rattle.tables.proofs.nodes.set_word.Statement.{statement}

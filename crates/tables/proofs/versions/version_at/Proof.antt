@@ -1,3 +1,4 @@
+-- `version_at` is its definition, word for word.
 use borrow.Author.Needs.{needs}
 use Rattle.tables.proofs.versions.version_at.Statement.{statement}
 use Rattle.tables.proofs.versions.version_at.Tie as tie
