@@ -6,17 +6,18 @@ use mathlib.Core.Path.{_≡_, refl}
 use mathlib.Core.List.{List, [], _∷_, _++_, map}
 use lib.Count.{trailingZeros}
 use lib.ListN.{length, replicate}
-use Rattle.model.specs.Types.{Kind, Put, Get, Opening, Starting, Stepping, Looking, Inspecting, Status}
+use Rattle.model.specs.Types.{Opening, Starting, Stepping, Looking, Inspecting, Status}
+use Rattle.model.specs.Types.{Process, Kind, Put, Get, Phase, Walk, Read, Seek, Lock, Make}
 use Rattle.model.specs.Types.{Answer, TooOld, VersionsFull, Added, KeysFull, New, Found, None}
 use Rattle.model.specs.Types.{Refusal, NodeLength, VersionLength, ProcessCount, EventLimit, NoProcess, BadKey}
 use Rattle.model.specs.Types.{Busy, NoCall, Spent, Corrupt, NoKey, NoVersion}
 use Rattle.model.specs.Layout as Layout
-use Rattle.model.specs.Layout.{nodeWords, versionWords, limits, capacity, top}
+use Rattle.model.specs.Layout.{nodeWords, versionWords, limits, capacity, word}
 use Rattle.model.specs.Numbers.{numberOf, placeOf}
 use Rattle.model.specs.Map as Map
 use Rattle.model.specs.Map.{Entry}
 use Rattle.model.specs.State as State
-use Rattle.model.specs.State.{idleProcess}
+use Rattle.model.specs.State.{idleProcess, processAt}
 use Rattle.model.specs.Phases as Phases
 use Rattle.model.specs.Calls as Calls
 use Rattle.model.specs.Calls.{Opened, openOf, topOf, startPutOf, startGetOf, Store, stepOf, lookOf, statusOf}
@@ -45,8 +46,9 @@ pub data Question : Type 0 where
   inspect : Question
   tally : Question
   tables : Question
+  word-of : (node field : ℕ) → Question
+  process : ℕ → Question
   top-of : (draw : ℕ) → Question
-  top-at : (node : ℕ) → Question
   observer : Question
   ledger : Question
 
@@ -58,19 +60,22 @@ pub data Said : Type 0 where
   stands : Status → Said
   inspected : Inspecting → Said
   words : List ℕ → Said
+  keeps : Process → Said
   lists : List Entry → Said
 
+-- `alter` is what somebody does to the store, behind the calls, before the question
 pub record Case : Type 0 where
   pub bench : Bench
   pub actions : List Action
+  pub alter : Store → Store
   pub question : Question
   pub expected : Said
 
 -- ---- what is said in a case
 
 -- The tables are lent full of rubbish: an opening that did not zero them would leave every lock held.
-unfoldable pub openBench : Bench → Opened
-openBench b = openOf (replicate (b .nodes) 77) (replicate (b .versions) 77) (b .processes) (b .limit)
+unfoldable pub open-bench : Bench → Opened
+open-bench b = openOf (replicate (b .nodes) 77) (replicate (b .versions) 77) (b .processes) (b .limit)
 
 -- `begin` of History, with the bench's own tally
 unfoldable pub start : Bench → Opened → Run
@@ -79,37 +84,37 @@ start b o = record {
   history = emptyHistory (b .processes) (b .limit);
 }
 
-unfoldable pub callOf : Store → Action → Said
-callOf w (startPut i k v t draw) = started (startPutOf (w .state) (w .nodes) (w .versions) i k v t draw .outcome)
-callOf w (startGet i k) = started (startGetOf (w .state) (w .nodes) (w .versions) i k .outcome)
-callOf w (step i) = stepped (stepOf w i .outcome)
-callOf w (look k back) = looked (lookOf (w .state) (w .nodes) (w .versions) k back)
+unfoldable pub call-of : Store → Action → Said
+call-of w (startPut i k v t draw) = started (startPutOf (w .state) (w .nodes) (w .versions) i k v t draw .outcome)
+call-of w (startGet i k) = started (startGetOf (w .state) (w .nodes) (w .versions) i k .outcome)
+call-of w (step i) = stepped (stepOf w i .outcome)
+call-of w (look k back) = looked (lookOf (w .state) (w .nodes) (w .versions) k back)
 
 -- the plain ledger that demand 3 sets beside the run
-unfoldable pub ledgerOf : Run → List Entry
-ledgerOf r = let w = r .store in let h = r .history in
+unfoldable pub ledger-of : Run → List Entry
+ledger-of r = let w = r .store in let h = r .history in
     mapAt (effectsOf (w .state) h) (length (h .log))
     (capacity nodeWords (length (w .nodes))) (capacity versionWords (length (w .versions)))
 
-unfoldable pub answerTo : Question → Opened → Run → Said
-answerTo (call a) o r = callOf (r .store) a
-answerTo opening o r = opened (o .result .outcome)
-answerTo (status i) o r = stands (statusOf (r .store .state) i)
-answerTo inspect o r = let w = r .store in inspected (inspectOf (w .state) (w .nodes) (w .versions))
-answerTo tally o r = words (r .store .tally)
-answerTo tables o r = words (r .store .nodes ++ r .store .versions)
-answerTo (top-of draw) o r = words (topOf draw ∷ [])
-answerTo (top-at x) o r = words (top (r .store .nodes) x ∷ [])
-answerTo observer o r = let h = r .history in
+unfoldable pub answer-to : Question → Opened → Run → Said
+answer-to (call a) o r = call-of (r .store) a
+answer-to opening o r = opened (o .result .outcome)
+answer-to (status i) o r = stands (statusOf (r .store .state) i)
+answer-to inspect o r = let w = r .store in inspected (inspectOf (w .state) (w .nodes) (w .versions))
+answer-to tally o r = words (r .store .tally)
+answer-to tables o r = words (r .store .nodes ++ r .store .versions)
+answer-to (word-of x f) o r = words (word (r .store .nodes) x f ∷ [])
+answer-to (process i) o r = keeps (processAt (r .store .state) i)
+answer-to (top-of draw) o r = words (topOf draw ∷ [])
+answer-to observer o r = let h = r .history in
     words (length (h .log) ∷ h .starts ∷ length (h .completed) ∷ length (h .queries) ∷ h .faults ∷ [])
-answerTo ledger o r = lists (ledgerOf r)
+answer-to ledger o r = lists (ledger-of r)
 
--- the answer to a question after some actions; all that the calls go through is opened here, once: whoever unfolds `asked`
--- unfolds this line
-unfoldable pub asked : Bench → List Action → Question → Said
-unfolding openBench start callOf ledgerOf answerTo
+-- All that the calls go through is opened here, once: whoever unfolds `said` unfolds this line.
+unfoldable pub said : Case → Said
+unfolding open-bench start call-of ledger-of answer-to
     numberOf placeOf
-    capacity Layout.word Layout.withWord Layout.withNode Layout.freshNodes Layout.field Layout.withVersion
+    capacity word Layout.withWord Layout.withNode Layout.freshNodes Layout.field Layout.withVersion
     State.lawfulLength State.lawfulState State.lawfulStore State.isIdle
     Phases.ahead Phases.walked Phases.descend Phases.walkBy Phases.walkOf Phases.readOf Phases.seekBy Phases.seekOf
     Phases.lockOf Phases.checkBy Phases.checkOf Phases.addVersion Phases.updateNode Phases.updateAt Phases.updateOf
@@ -127,11 +132,14 @@ unfolding openBench start callOf ledgerOf answerTo
     performAll
     Map.versionsOf Map.held Map.pushed Map.putBy Map.putIn Linearizability.fedBy Linearizability.completedEffects
     Linearizability.shownEffect Linearizability.runningEffects effectsOf Linearizability.fedAt mapAt
-asked b actions q = let o = openBench b in answerTo q o (performAll (start b o) actions)
+said c =
+    let o = open-bench (c .bench) in
+    let r = performAll (start (c .bench) o) (c .actions) in
+    answer-to (c .question) o (record { store = c .alter (r .store); history = r .history })
 
-unfoldable pub said : Case → Said
-unfolding asked
-said c = asked (c .bench) (c .actions) (c .question)
+unfoldable pub asked : Bench → List Action → Question → Said
+unfolding said
+asked b actions q = said (record { bench = b; actions = actions; alter = λ w. w; question = q; expected = words [] })
 
 -- ---- words for the cases
 
@@ -152,7 +160,7 @@ with-tally b t = record {
 }
 
 abbrev pub case : Bench → List Action → Question → Said → Case
-case b actions q s = record { bench = b; actions = actions; question = q; expected = s }
+case b actions q s = record { bench = b; actions = actions; alter = λ w. w; question = q; expected = s }
 
 abbrev pub steps : (n process : ℕ) → List Action
 steps n i = replicate n (step i)
@@ -214,7 +222,7 @@ abbrev pub draw-gives : (draw top : ℕ) → Case
 draw-gives d t = case one [] (top-of d) (words (t ∷ []))
 
 abbrev pub draw-makes : (draw top : ℕ) → Case
-draw-makes d t = case one (startPut 0 7 5 100 d ∷ steps 10 0) (top-at 1) (words (t ∷ []))
+draw-makes d t = case one (startPut 0 7 5 100 d ∷ steps 10 0) (word-of 1 2) (words (t ∷ []))
 
 abbrev pub opens : (nodes versions processes limit : ℕ) → Opening → Case
 opens n v p l o = case (lent n v p l) [] opening (opened o)
@@ -223,6 +231,32 @@ opens n v p l o = case (lent n v p l) [] opening (opened o)
 abbrev pub thrice : List Action
 thrice = put 11 7 5 100 ++ put 11 7 6 100 ++ put 11 7 8 101
 
+-- trays 3, 9 and 5 of tops 5, 5 and 3: the second and third have node 1 for predecessor at every level
+abbrev pub tall : List Action
+tall = startPut 0 3 5 100 0 ∷ steps 36 0 ++ (startPut 0 9 6 100 0 ∷ steps 37 0) ++ (startPut 0 5 8 100 8 ∷ steps 26 0)
+
+-- trays 3, 5 and 9 of tops 1, 0 and 3: the third has another predecessor at each of levels 0, 1 and 2
+abbrev pub stairs : List Action
+stairs = startPut 0 3 5 100 2 ∷ steps 16 0 ++ put 12 5 6 100 ++ (startPut 0 9 8 100 8 ∷ steps 27 0)
+
+-- tray 3 of top 1 held; process 0 puts 9 behind it and has its level 1 lock
+abbrev pub climbing : List Action
+climbing = startPut 0 3 5 100 2 ∷ steps 16 0 ++ (startPut 0 9 6 101 2 ∷ steps 14 0)
+
+-- trays 7 and 9 of top 1, both walked on an empty store; 9 goes ahead by n steps, then 7 to its end
+abbrev pub overtaken : (n : ℕ) → List Action
+overtaken n = startPut 0 7 5 100 2 ∷ startPut 1 9 6 101 2 ∷ steps 6 0 ++ steps 6 1 ++ steps n 1 ++ steps 10 0
+
+-- the call that a process keeps, and where it stands
+abbrev pub kept : Kind → (key value timestamp top start : ℕ) → Phase → (level pred made : ℕ) → Answer → (effect : ℕ)
+    → (preds : List ℕ) → Said
+kept kind k v t top start phase level pred made a effect preds = keeps (record {
+  call = record { kind = kind; key = k; value = v; timestamp = t; top = top; start = start };
+  cursor = record { phase = phase; level = level; pred = pred; made = made };
+  effect = record { answer = a; tick = effect };
+  preds = preds;
+})
+
 -- trays 7 and 9 put side by side on an empty store, to the end
 abbrev pub both : List Action
 both = side-by-side 7 5 100 9 6 101 ++ steps 4 0 ++ steps 7 1
@@ -230,11 +264,11 @@ both = side-by-side 7 5 100 9 6 101 ++ steps 4 0 ++ steps 7 1
 abbrev pub entry : (key value timestamp : ℕ) → Entry
 entry k v t = record { key = k; versions = record { value = v; timestamp = t } ∷ [] }
 
--- process 0 has put tray 7; process 1 is past the effect of its put of 9, and 0 not yet at that of 3. In between a
--- start, a step and a look that are refused, and a look that is not.
+-- process 0 has put tray 7; 1 is past the effect of its put of 9, 0 not yet at that of 3; 2 has no call. 28 events,
+-- two looks, and at a limit of 28 every refusal that a start or a step can meet
 abbrev pub mixed : List Action
-mixed = put 11 7 5 100 ++ (startPut 1 9 6 101 1 ∷ startGet 1 9 ∷ step 2 ∷ steps 11 1)
-    ++ (look 0 0 ∷ look 9 0 ∷ put 3 3 8 100)
+mixed = put 11 7 5 100 ++ (startPut 1 9 6 101 1 ∷ steps 11 1) ++ (look 0 0 ∷ look 9 0 ∷ put 3 3 8 100)
+    ++ (startGet 3 0 ∷ startGet 2 0 ∷ startGet 0 7 ∷ startGet 2 7 ∷ step 3 ∷ step 2 ∷ step 0 ∷ [])
 
 -- ---- slips
 

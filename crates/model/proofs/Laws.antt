@@ -1,12 +1,13 @@
 -- What the definitions say on every state, tables and tally: their numbers, that a refusal changes nothing, that an
 -- event is one tick, that a wait is only that, and that a look ends.
 use Prim.Native.Nat.{ℕ, zero, suc, _+_, _≤_, _<_}
-use mathlib.Core.Bool.{Bool, true, false, not, and-eq-true-iff}
+use mathlib.Core.Bool.{Bool, true, false, not, _&&_, and-eq-true-iff}
 use mathlib.Core.List.{List, [], _∷_, map}
 use mathlib.Core.Logic.{_↔_}
 use mathlib.Core.Path.{_≡_, refl, sym, ap, _∙_}
+use native.Mathlib.Nat.{le-trans}
 use native.Mathlib.Omega.{arith}
-use borrow.Author.Tests.{leb-true, leb-false, ltb-true, eqb-false, not-false}
+use borrow.Author.Tests.{leb-true, leb-false, ltb-true, eqb-true, eqb-false, not-false}
 use lib.Count.{trailingZeros}
 use lib.Dec.{leb, ltb, eqb, lit<}
 use lib.ListN.{length, getD}
@@ -29,6 +30,8 @@ use Rattle.model.specs.Calls.{denyIf, openPermit, Opened, openBy, openOf
 use Rattle.model.specs.Calls.{startPermit, startBy, startPutOf, startGetOf}
 use Rattle.model.specs.Calls.{Store, stepPermit, processAfter, outcomeOf, tallyAfter, stepBy, stepOf}
 use Rattle.model.specs.Calls.{backFrom, lookNode, lookPermit, lookBy, lookOf}
+use Rattle.model.specs.History.{Action, startPut, startGet, step, look, Operation, History, startDue, stepDue}
+use Rattle.model.specs.History.{isGranted, isDenied, unless, sawStart, sawStep, sawLook, Run, perform, performAll}
 
 -- ---- numbers
 
@@ -391,3 +394,75 @@ pub look-shows : (s : State) (nodes versions : List ℕ) (k back : ℕ) (v : Ver
     → lookOf s nodes versions k back ≡ Looking.Shown v → back < s .counts .versions
 unfolding lookOf
 look-shows s nodes versions k back = look-falls (lookPermit s nodes versions k) _ k back
+
+-- ---- the observer of demand 3
+
+-- what is due of a start, and of a step: the refusal that was given, or none and the tick that was told
+abbrev pub StartIsDue : Permit → (tick : ℕ) → Starting → Type 0
+StartIsDue due tick (Starting.Refused r) = due ≡ Denied r
+StartIsDue due tick (Starting.Started t) = (due ≡ Granted) × (t ≡ tick)
+
+abbrev pub StepIsDue : Permit → (tick : ℕ) → Stepping → Type 0
+StepIsDue due tick (Stepping.Refused r) = due ≡ Denied r
+StepIsDue due tick (Stepping.Moved t) = (due ≡ Granted) × (t ≡ tick)
+StepIsDue due tick (Stepping.Waited t) = (due ≡ Granted) × (t ≡ tick)
+StepIsDue due tick (Stepping.Finished f) = (due ≡ Granted) × (f .finish ≡ tick)
+
+no-fault : (n : ℕ) (b : Bool) → n + unless b ≡ n → b ≡ true
+no-fault n true e = refl
+no-fault n false e = absurd (omega arith)
+
+granted-true : (p : Permit) → isGranted p ≡ true → p ≡ Granted
+granted-true Granted e = refl
+granted-true (Denied r) e = cc
+
+denied-true : (p : Permit) (r : Refusal) → isDenied p r ≡ true → p ≡ Denied r
+denied-true Granted r e = cc
+denied-true (Denied d) r e = ap Denied (number-injective d r (eqb-true _ _ e))
+
+-- an event that counts no fault was granted, and told the tick
+event-due : (n : ℕ) (p : Permit) (t tick : ℕ) → n + unless (isGranted p && eqb t tick) ≡ n → (p ≡ Granted) × (t ≡ tick)
+event-due n p t tick e =
+    let f = simp and-eq-true-iff at (no-fault n (isGranted p && eqb t tick) e) in
+    (granted-true p (f .0), eqb-true t tick (f .1))
+
+-- the observer counts a fault wherever an outcome is not the one due
+pub start-observed : (h : History) (a : Action) (i : ℕ) (op : Operation) (o : Starting)
+    → sawStart h a i op o .faults ≡ h .faults → StartIsDue (startDue h i (op .key)) (suc (length (h .log))) o
+unfolding sawStart
+start-observed h a i op (Starting.Refused r) e = denied-true _ r (no-fault _ _ e)
+start-observed h a i op (Starting.Started t) e = event-due (h .faults) _ t _ e
+
+pub step-observed : (h : History) (i : ℕ) (o : Stepping)
+    → sawStep h i o .faults ≡ h .faults → StepIsDue (stepDue h i) (suc (length (h .log))) o
+unfolding sawStep
+step-observed h i (Stepping.Refused r) e = denied-true _ r (no-fault _ _ e)
+step-observed h i (Stepping.Moved t) e = event-due (h .faults) _ t _ e
+step-observed h i (Stepping.Waited t) e = event-due (h .faults) _ t _ e
+step-observed h i (Stepping.Finished f) e = event-due (h .faults) _ (f .finish) _ e
+
+start-counts : (h : History) (a : Action) (i : ℕ) (op : Operation) (o : Starting)
+    → h .faults ≤ sawStart h a i op o .faults
+unfolding sawStart
+start-counts h a i op (Starting.Refused r) = omega arith
+start-counts h a i op (Starting.Started t) = omega arith
+
+step-counts : (h : History) (i : ℕ) (o : Stepping) → h .faults ≤ sawStep h i o .faults
+unfolding sawStep
+step-counts h i (Stepping.Refused r) = omega arith
+step-counts h i (Stepping.Moved t) = omega arith
+step-counts h i (Stepping.Waited t) = omega arith
+step-counts h i (Stepping.Finished f) = omega arith
+
+action-counts : (r : Run) (a : Action) → r .history .faults ≤ perform r a .history .faults
+unfolding perform sawLook
+action-counts r (startPut i k v t draw) = start-counts (r .history) _ i _ _
+action-counts r (startGet i k) = start-counts (r .history) _ i _ _
+action-counts r (step i) = step-counts (r .history) i _
+action-counts r (look k back) = omega arith
+
+-- no fault is forgotten: none at the end is none on the way
+pub faults-stay : (r : Run) (actions : List Action) → r .history .faults ≤ performAll r actions .history .faults
+unfolding performAll
+faults-stay r [] = omega arith
+faults-stay r (a ∷ rest) = le-trans (action-counts r a) (faults-stay (perform r a) rest)

@@ -1,5 +1,6 @@
 pub mod Bench
 pub mod Starred
+pub mod Damage
 pub mod Laws
 pub mod Tests
 pub mod Words

@@ -1,18 +1,21 @@
 -- Trays on the test bench: document 01's cases in one table, proved by computing both sides.
-use Prim.Native.Nat.{ℕ}
+use Prim.Native.Nat.{ℕ, _+_, _*_}
 use mathlib.Core.List.{List, [], _∷_, _++_, map}
 use mathlib.Core.Path.{_≡_, refl}
 use lib.ListN.{replicate}
-use Rattle.model.specs.Types.{Put, Get, Opening, Starting, Stepping, Looking, Inspecting, Status}
+use Rattle.model.specs.Types.{Opening, Starting, Stepping, Looking, Inspecting, Status}
+use Rattle.model.specs.Types.{Process, Put, Get, Phase, Walk, Read, Seek, Lock, Make}
 use Rattle.model.specs.Types.{TooOld, VersionsFull, Added, KeysFull, New, Found, None}
 use Rattle.model.specs.Types.{Refusal, NodeLength, VersionLength, ProcessCount, EventLimit, NoProcess, BadKey}
 use Rattle.model.specs.Types.{Busy, NoCall, Spent, Corrupt, NoKey, NoVersion}
+use Rattle.model.specs.Layout.{nodeWords, versionWords}
+use Rattle.model.specs.State.{idleProcess}
 use Rattle.model.specs.History.{startPut, startGet, step, look}
-use Rattle.model.proofs.Bench.{Case, call, opening, status, inspect, tally, tables, observer, ledger}
-use Rattle.model.proofs.Bench.{started, stands, inspected, words, lists, opened, said}
-use Rattle.model.proofs.Bench.{lent, fit, with-tally, case, steps, put, get, times, side-by-side, done, on, wait}
-use Rattle.model.proofs.Bench.{shows, no-start, no-step, no-look, one, two, draw-gives, draw-makes, opens}
-use Rattle.model.proofs.Bench.{thrice, both, entry, mixed}
+use Rattle.model.proofs.Bench.{Case, call, status, inspect, tally, tables, word-of, process, observer, ledger}
+use Rattle.model.proofs.Bench.{started, stands, inspected, words, keeps, lists, start, said, lent, fit}
+use Rattle.model.proofs.Bench.{with-tally, case, steps, put, get, times, side-by-side, done, on, wait, shows}
+use Rattle.model.proofs.Bench.{no-start, no-step, no-look, one, two, draw-gives, draw-makes, opens, thrice}
+use Rattle.model.proofs.Bench.{tall, stairs, climbing, overtaken, kept, both, entry, mixed}
 
 -- ---- the cases that document 01 wants proved
 
@@ -97,13 +100,68 @@ others =
     case (fit 2 3 1 1) [] (call (startGet 0 7)) (started (Starting.Started 1)) ∷
     case (fit 2 3 1 1) (get 0 7) (call (step 0)) (no-step Spent) ∷
     -- the words of both tables: one node of top 1 and its version, idle; the lock of process 1, "station number plus 1";
-    -- and a second version, whose previous place is 1
+    -- a second version, whose previous place is 1; and three nodes, twice, linked at several levels
     case (fit 1 1 1 400) (startPut 0 7 5 100 2 ∷ steps 16 0) tables
     (words (0 ∷ 0 ∷ 5 ∷ 0 ∷ 1 ∷ 1 ∷ replicate 10 0 ++ (7 ∷ 1 ∷ 1 ∷ replicate 16 0) ++ (5 ∷ 100 ∷ 0 ∷ []))) ∷
     case (fit 1 1 2 400) (startPut 1 7 5 100 2 ∷ steps 8 1) tables
     (words (0 ∷ 0 ∷ 5 ∷ replicate 7 0 ++ (2 ∷ replicate 27 0))) ∷
     case (fit 1 2 1 400) (put 11 7 5 100 ++ put 11 7 6 100) tables
     (words (0 ∷ 0 ∷ 5 ∷ 0 ∷ 1 ∷ replicate 11 0 ++ (7 ∷ 2 ∷ replicate 17 0) ++ (5 ∷ 100 ∷ 0 ∷ 6 ∷ 100 ∷ 1 ∷ []))) ∷
+    case (fit 3 3 1 400) (tall ++ steps 1 0) tables (words (
+    0 ∷ 0 ∷ 5 ∷ 0 ∷ 1 ∷ 1 ∷ 1 ∷ 1 ∷ 1 ∷ 1 ∷ replicate 6 0
+    ++ (3 ∷ 1 ∷ 5 ∷ 0 ∷ 3 ∷ 3 ∷ 3 ∷ 3 ∷ 2 ∷ 2 ∷ replicate 6 0)
+    ++ (9 ∷ 2 ∷ 5 ∷ replicate 13 0)
+    ++ (5 ∷ 3 ∷ 3 ∷ 0 ∷ 2 ∷ 2 ∷ 2 ∷ 2 ∷ replicate 8 0)
+    ++ (0 ∷ 0 ∷ 0 ∷ 5 ∷ 100 ∷ 0 ∷ 6 ∷ 100 ∷ 0 ∷ 8 ∷ 100 ∷ 0 ∷ []))) ∷
+    case (fit 3 3 1 400) tall (call (step 0)) (done Put New 8 100 76 87 103) ∷
+    case (fit 3 3 1 400) (stairs ++ steps 1 0) tables (words (
+    0 ∷ 0 ∷ 5 ∷ 0 ∷ 1 ∷ 1 ∷ 3 ∷ 3 ∷ replicate 8 0
+    ++ (3 ∷ 1 ∷ 1 ∷ 0 ∷ 2 ∷ 3 ∷ replicate 10 0)
+    ++ (5 ∷ 2 ∷ 0 ∷ 0 ∷ 3 ∷ replicate 11 0)
+    ++ (9 ∷ 3 ∷ 3 ∷ replicate 13 0)
+    ++ (0 ∷ 0 ∷ 0 ∷ 5 ∷ 100 ∷ 0 ∷ 6 ∷ 100 ∷ 0 ∷ 8 ∷ 100 ∷ 0 ∷ []))) ∷
+    case (fit 3 3 1 400) stairs (call (step 0)) (done Put New 8 100 31 43 59) ∷
+    -- what "the station keeps": at the start; with nodes passed, remembered and made; on the way to read; after its end
+    case one (get 0 7) (process 0) (kept Get 7 0 0 0 1 Walk 5 0 0 None 0 (replicate 6 0)) ∷
+    case one (put 0 7 5 100) (process 0) (kept Put 7 5 100 0 1 Walk 5 0 0 None 0 (replicate 6 0)) ∷
+    case (fit 3 3 2 400) (startPut 0 3 5 100 2 ∷ steps 16 0 ++ put 5 9 6 101) (process 0)
+    (kept Put 9 6 101 0 18 Walk 1 1 0 None 0 (replicate 6 0)) ∷
+    case (fit 3 3 2 400) (startPut 0 3 5 100 2 ∷ steps 16 0 ++ put 7 9 6 101) (process 0)
+    (kept Put 9 6 101 0 18 Seek 0 1 0 None 0 (1 ∷ 1 ∷ replicate 4 0)) ∷
+    case (fit 3 3 2 400) (startPut 0 3 5 100 2 ∷ steps 16 0 ++ (startPut 0 9 6 101 2 ∷ steps 13 0)) (process 0)
+    (kept Put 9 6 101 1 18 Lock 1 1 2 New 29 (1 ∷ 1 ∷ replicate 4 0)) ∷
+    case one (put 11 3 5 100 ++ put 12 7 6 100 ++ get 7 7) (process 0)
+    (kept Get 7 0 0 0 26 Read 0 2 0 None 0 (1 ∷ replicate 5 0)) ∷
+    case (fit 3 3 1 400) (put 11 3 5 100 ++ put 12 5 6 100 ++ put 7 9 8 100) (process 0)
+    (kept Put 9 8 100 0 26 Walk 0 2 0 None 0 (replicate 6 0)) ∷
+    case two (startPut 0 7 5 100 1 ∷ startPut 1 9 6 101 1 ∷ steps 6 0 ++ steps 6 1 ++ steps 5 0 ++ steps 4 1) (process 1)
+    (kept Put 9 6 101 0 2 Make 0 1 0 None 0 (replicate 6 0)) ∷
+    case one (put 11 7 5 100) (process 0) (keeps idleProcess) ∷
+    -- a tray behind another: gets, and an update that leaves the other alone
+    case one (put 11 3 5 100 ++ put 12 7 6 100 ++ get 7 7) (call (step 0)) (done Get Found 6 100 26 34 34) ∷
+    case one (put 11 3 5 100 ++ put 12 7 6 100 ++ get 6 5) (call (step 0)) (done Get None 0 0 26 33 33) ∷
+    case one (put 11 3 5 100 ++ put 12 7 6 100 ++ put 12 7 8 101) (call (look 7 0)) (shows 8 101) ∷
+    case one (put 11 3 5 100 ++ put 12 7 6 100 ++ put 12 7 8 101) (call (look 3 0)) (shows 5 100) ∷
+    -- "Where the tray has no list: [..] else V readings held, readings full"
+    case (fit 2 1 1 400) (put 11 7 5 100 ++ put 11 8 6 100) (call (step 0)) (done Put VersionsFull 6 100 13 24 25) ∷
+    -- "A put that was new and has L below its top": no other put climbs, whatever its draw
+    case one (put 11 7 5 100 ++ (startPut 0 7 6 100 0 ∷ steps 10 0)) (call (step 0)) (done Put Added 6 100 13 23 24) ∷
+    case one (put 11 7 5 100 ++ (startPut 0 7 6 99 0 ∷ steps 10 0)) (call (step 0)) (done Put TooOld 6 99 13 23 24) ∷
+    case (fit 1 1 1 400) (put 11 7 5 100 ++ (startPut 0 7 6 101 0 ∷ steps 10 0)) (call (step 0))
+    (done Put VersionsFull 6 101 13 23 24) ∷
+    case (fit 1 1 1 400) (put 11 7 5 100 ++ (startPut 0 8 6 100 0 ∷ steps 11 0)) (call (step 0))
+    (done Put KeysFull 6 100 13 24 25) ∷
+    -- a wait for the lock of another node than the head, above level 0
+    case (fit 3 3 2 400) climbing (word-of 1 11) (words (1 ∷ [])) ∷
+    case (fit 3 3 2 400) (climbing ++ (startPut 1 7 8 102 2 ∷ steps 13 1)) (call (step 1)) (wait 47) ∷
+    -- "Seek: before: p moves along.", at level 0 and above it
+    case two (startPut 0 7 5 100 1 ∷ startPut 1 9 6 101 1 ∷ steps 6 0 ++ steps 6 1 ++ steps 5 0 ++ steps 5 1)
+    (call (step 1)) (done Put New 6 101 2 24 25) ∷
+    case two (overtaken 5 ++ steps 5 1) (call (step 1)) (done Put New 6 101 2 18 35) ∷
+    case two (overtaken 5 ++ steps 6 1) inspect (inspected Inspecting.Sound) ∷
+    -- "Check: before: free the lock, p moves along, go to seek.", above level 0
+    case two (overtaken 6 ++ steps 6 1) (call (step 1)) (done Put New 6 101 2 18 37) ∷
+    case two (overtaken 6 ++ steps 7 1) inspect (inspected Inspecting.Sound) ∷
     -- "Two puts of one new tray: one new, one added or too old": the second finds the tray under the lock
     case two (side-by-side 7 5 100 7 6 99 ++ steps 3 0) (call (step 0)) (done Put New 5 100 1 19 20) ∷
     case two (side-by-side 7 5 100 7 6 99 ++ steps 4 0 ++ steps 3 1) (call (step 1)) (done Put TooOld 6 99 2 23 24) ∷
@@ -152,8 +210,8 @@ others =
     (words (replicate 6 0 ++ (4_294_967_295 ∷ []))) ∷
     -- what the observer of demand 3 writes down: 28 events, 3 starts, 1 finished call, 2 looks, no fault; and the ledger
     -- fed with the two calls that took effect
-    case two mixed observer (words (28 ∷ 3 ∷ 1 ∷ 2 ∷ 0 ∷ [])) ∷
-    case two mixed ledger (lists (entry 7 5 100 ∷ entry 9 6 101 ∷ [])) ∷
+    case (fit 2 3 3 28) mixed observer (words (28 ∷ 3 ∷ 1 ∷ 2 ∷ 0 ∷ [])) ∷
+    case (fit 2 3 3 28) mixed ledger (lists (entry 7 5 100 ∷ entry 9 6 101 ∷ [])) ∷
     []
 
 -- ---- the table
