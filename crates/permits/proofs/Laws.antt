@@ -1,0 +1,160 @@
+-- Laws of the refusals: what a test tells, and what a call that is not refused may go by.
+use Prim.Native.Nat.{ℕ, zero, suc, _+_, _-_, _*_, _≤_, _<_}
+use mathlib.Core.Bool.{Bool, true, false, not, _&&_, _||_, and-eq-true-iff}
+use mathlib.Core.List.{List}
+use mathlib.Core.Logic.{_↔_}
+use mathlib.Core.Path.{_≡_, refl, sym}
+use native.Mathlib.Numerals.{unary-clauses}
+use native.Mathlib.Omega.{arith}
+use borrow.Author.Tests.{leb-true, leb-false, ltb-true, ltb-false, eqb-true, eqb-false, le-leb, lt-leb, eq-eqb, not-false}
+use lib.Dec.{leb, ltb, eqb}
+use lib.ListN.{length}
+use Rattle.model.specs.declared.types.Kind.{Kind}
+use Rattle.model.specs.declared.types.Permit.{Permit}
+use Rattle.model.specs.declared.types.Permit.the-variants.{Granted}
+use Rattle.model.specs.declared.types.Refusal.{Refusal}
+use Rattle.model.specs.declared.types.Refusal.the-variants.{Corrupt, NoProcess, BadKey, Busy, NoCall, Spent}
+use Rattle.model.specs.declared.types.State.{State}
+use Rattle.model.specs.Choice.{if_then_else_}
+use Rattle.model.specs.Layout.{limits, nodeWords, versionWords, capacity}
+use Rattle.model.specs.State.{processAt, isIdle, lawfulKey, lawfulLength, lawfulState, lawfulStore}
+use Rattle.model.specs.Calls.{denyIf, noSuch, spent, startPermit, Store, stepPermit}
+use Rattle.model.specs.Inspection.{idleBelow}
+
+-- n - 1 is 0 for n = 0 too, so nothing in use is always within it
+pub in-use : (used all : ℕ) → eqb used 0 || ltb used all ≡ leb used (all - 1)
+in-use used all = cases (eqb used 0) (ltb used all) refl refl
+  where
+    cases : (a b : Bool) → eqb used 0 ≡ a → ltb used all ≡ b → a || b ≡ leb used (all - 1)
+    cases true b e f = sym (le-leb used (all - 1) (omega (arith, eqb-true used 0 e)))
+    cases false true e f = sym (le-leb used (all - 1) (omega (arith, ltb-true)))
+    cases false false e f = sym (lt-leb used (all - 1) (omega (arith, ltb-false, eqb-false used 0 e)))
+
+-- one process less
+pub idle-more : (s : State) (n : ℕ) → 0 < n
+    → idleBelow s n ≡ isIdle (processAt s (n - 1) .call .kind) && idleBelow s (n - 1)
+unfolding idleBelow
+idle-more s zero h = absurd (omega arith)
+idle-more s (suc n) h = simp unary-clauses
+
+-- ---- lawful
+
+leb-iff : (a b : ℕ) → (leb a b ≡ true) ↔ (a ≤ b)
+leb-iff a b = (leb-true a b, le-leb a b)
+
+eqb-iff : (a b : ℕ) → (eqb a b ≡ true) ↔ (a ≡ b)
+eqb-iff a b = (eqb-true a b, eq-eqb a b)
+
+-- what may be gone by where refusal 10 is not given
+pub record Lawful (s : State) (nodes versions : List ℕ) : Type 0 where
+  pub processes : s .processes ≤ limits .processes
+  pub limit : s .limit ≤ limits .events
+  pub node : nodeWords * s .counts .nodes + nodeWords ≤ length nodes
+  pub version : versionWords * s .counts .versions + versionWords ≤ length versions
+  pub few-nodes : length nodes ≤ nodeWords * suc (limits .nodes)
+  pub few-versions : length versions ≤ versionWords * suc (limits .versions)
+
+pub lawful-store : (s : State) (nodes versions : List ℕ) → lawfulStore s nodes versions ≡ true
+    → Lawful s nodes versions
+unfolding lawfulStore lawfulState lawfulLength capacity
+lawful-store s nodes versions h =
+    let f = simp (and-eq-true-iff, leb-iff, eqb-iff) at h in
+    record {
+      processes = omega arith;
+      limit = omega arith;
+      node = omega arith;
+      version = omega arith;
+      few-nodes = omega arith;
+      few-versions = omega arith;
+    }
+
+-- ---- granted
+
+-- what is granted has met no refusal
+granted-iff : (b : Bool) (r : Refusal) (rest : Permit)
+    → (denyIf b r rest ≡ Granted) ↔ ((b ≡ false) × (rest ≡ Granted))
+granted-iff false r rest = (λ e. (refl, e), λ f. f .1)
+granted-iff true r rest = (λ e. (cc, cc), λ f. cc (f .0))
+
+-- what an accepted start may go by
+pub record MayStart (s : State) (nodes versions : List ℕ) (i : ℕ) : Type 0 where
+  pub lawful : Lawful s nodes versions
+  pub process : i < s .processes
+  pub event : s .events < s .limit
+
+pub may-start : (s : State) (nodes versions : List ℕ) (i k : ℕ) → startPermit s nodes versions i k ≡ Granted
+    → MayStart s nodes versions i
+unfolding startPermit
+may-start s nodes versions i k e =
+    let f = simp granted-iff at e in
+    record {
+      lawful = lawful-store s nodes versions (not-false _ (f .0));
+      process = leb-false _ _ (f .1 .0);
+      event = leb-false _ _ (f .1 .1 .1 .1 .0);
+    }
+
+-- what a step may go by once refusals 10, 5, 8 and 9 are not given
+pub record MayStep (w : Store) (i : ℕ) : Type 0 where
+  pub start : MayStart (w .state) (w .nodes) (w .versions) i
+  pub tally : length (w .tally) ≡ limits .answers
+
+pub may-step : (w : Store) (i : ℕ) → stepPermit w i ≡ Granted → MayStep w i
+unfolding stepPermit
+may-step w i e =
+    let f = simp granted-iff at e in
+    let t = lawfulStore (w .state) (w .nodes) (w .versions) && eqb (length (w .tally)) (limits .answers) in
+    let l = simp and-eq-true-iff at (not-false t (f .0)) in
+    record {
+      start = record {
+        lawful = lawful-store (w .state) (w .nodes) (w .versions) (l .0);
+        process = leb-false _ _ (f .1 .0);
+        event = leb-false _ _ (f .1 .1 .1 .0);
+      };
+      tally = eqb-true _ _ (l .1);
+    }
+
+-- ---- the kind
+
+-- what comes after refusals 10 and 5 counts only where neither is given
+after-ten-and-five : (l : Bool) (n i : ℕ) (x y : Permit) → (l ≡ true → i < n → x ≡ y)
+    → denyIf (not l) Corrupt (denyIf (leb n i) NoProcess x) ≡ denyIf (not l) Corrupt (denyIf (leb n i) NoProcess y)
+after-ten-and-five l n i x y f = cases l (leb n i) refl refl
+  where
+    cases : (a b : Bool) → l ≡ a → leb n i ≡ b
+        → denyIf (not a) Corrupt (denyIf b NoProcess x) ≡ denyIf (not a) Corrupt (denyIf b NoProcess y)
+    cases false b e g = refl
+    cases true true e g = refl
+    cases true false e g = f e (leb-false n i g)
+
+module _
+    (s : State)
+    (nodes versions : List ℕ)
+    (i : ℕ)
+    (kind : Kind)
+    (found : i < limits .processes → processAt s i .call .kind ≡ kind)
+  where
+    -- the permits with the kind that was found
+    pub start-kind : (k : ℕ) → startPermit s nodes versions i k
+        ≡ denyIf (not (lawfulStore s nodes versions)) Corrupt
+        (denyIf (noSuch s i) NoProcess
+        (denyIf (not (lawfulKey k)) BadKey
+        (denyIf (not (isIdle kind)) Busy
+        (denyIf (spent s) Spent
+        Granted))))
+    unfolding startPermit
+    start-kind k =
+        after-ten-and-five (lawfulStore s nodes versions) (s .processes) i _ _
+        (λ l j. let f = lawful-store s nodes versions l in simp (found (omega arith)))
+
+    pub step-kind : (tally : List ℕ)
+        → stepPermit (record { state = s; nodes = nodes; versions = versions; tally = tally }) i
+        ≡ denyIf (not (lawfulStore s nodes versions && eqb (length tally) (limits .answers))) Corrupt
+        (denyIf (noSuch s i) NoProcess
+        (denyIf (isIdle kind) NoCall
+        (denyIf (spent s) Spent
+        Granted)))
+    unfolding stepPermit
+    step-kind tally =
+        let t = lawfulStore s nodes versions && eqb (length tally) (limits .answers) in
+        after-ten-and-five t (s .processes) i _ _
+        (λ l j. let f = lawful-store s nodes versions ((simp and-eq-true-iff at l) .0) in simp (found (omega arith)))

@@ -1,0 +1,19 @@
+//! An implementation of document 01 (`01-scope.md`) written from its text alone, to be held against another one.
+//!
+//! - [`model`]: the store; total on any state, tables, tally and arguments.
+//! - [`ledger`]: the plain ledger and two checkers of demand 3.
+//! - [`sheet`]: the sheet program; bytes in, lines out.
+//! - [`explore`]: all interleavings of small stores; [`broken`]: stores with a known slip.
+//! - [`generate`]: random sheets and histories; [`damage`]: altered memory; all repeat from a seed.
+//! - [`text`]: sheets as readable lines.
+
+pub mod broken;
+pub mod damage;
+pub mod explore;
+pub mod generate;
+pub mod ledger;
+pub mod machine;
+pub mod model;
+pub mod random;
+pub mod sheet;
+pub mod text;

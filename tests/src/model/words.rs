@@ -1,0 +1,87 @@
+//! The state as a row of words, for a comparison with another implementation through a C interface.
+//!
+//! Words 0 to 7: opened (0 or 1), processes, limit, events, node words, version words, nodes, versions. Then 18 words
+//! for each of the 8 processes: kind, key, value, timestamp, top, start, phase, level, pred, made, answer, effect and
+//! the six remembered nodes. Kind, phase and answer are the numbers of their enums, in the order of declaration.
+
+use super::*;
+
+const HEAD: usize = 8;
+const PROCESS_WORDS: usize = 12 + LEVELS;
+pub const STATE_WORDS: usize = HEAD + PROCESSES * PROCESS_WORDS;
+
+const KINDS: [Kind; 3] = [Kind::Idle, Kind::Put, Kind::Get];
+pub(crate) const PHASES: [Phase; 9] = [
+    Phase::Walk,
+    Phase::Read,
+    Phase::Seek,
+    Phase::Lock,
+    Phase::Check,
+    Phase::Update,
+    Phase::Make,
+    Phase::Link,
+    Phase::Release,
+];
+
+impl Phase {
+    pub const ALL: [Phase; 9] = PHASES;
+}
+
+impl State {
+    pub fn to_words(&self) -> Vec<u32> {
+        let mut words = vec![self.opened as u32, self.processes, self.limit, self.events];
+        words.extend([self.node_words, self.version_words, self.nodes, self.versions]);
+        for process in &self.process {
+            process.write_words(&mut words);
+        }
+        words
+    }
+
+    /// Nothing if the length is wrong or a kind, phase, answer or opened word has no such number.
+    pub fn from_words(words: &[u32]) -> Option<State> {
+        if words.len() != STATE_WORDS || words[0] > 1 {
+            return None;
+        }
+        let mut process = [Process::IDLE; PROCESSES];
+        for (process, part) in process.iter_mut().zip(words[HEAD..].chunks(PROCESS_WORDS)) {
+            *process = Process::from_words(part)?;
+        }
+        Some(State {
+            opened: words[0] == 1,
+            processes: words[1],
+            limit: words[2],
+            events: words[3],
+            node_words: words[4],
+            version_words: words[5],
+            nodes: words[6],
+            versions: words[7],
+            process,
+        })
+    }
+}
+
+impl Process {
+    fn write_words(&self, words: &mut Vec<u32>) {
+        words.extend([self.kind as u32, self.key, self.value, self.timestamp, self.top, self.start]);
+        words.extend([self.phase as u32, self.level, self.pred, self.made, self.answer as u32, self.effect]);
+        words.extend(self.preds);
+    }
+
+    fn from_words(words: &[u32]) -> Option<Process> {
+        Some(Process {
+            kind: *KINDS.get(words[0] as usize)?,
+            key: words[1],
+            value: words[2],
+            timestamp: words[3],
+            top: words[4],
+            start: words[5],
+            phase: *PHASES.get(words[6] as usize)?,
+            level: words[7],
+            pred: words[8],
+            made: words[9],
+            answer: *Answer::ALL.get(words[10] as usize)?,
+            effect: words[11],
+            preds: words[12..].try_into().ok()?,
+        })
+    }
+}

@@ -1,0 +1,125 @@
+//! The checkers can fail: each broken store is objected to, by the explorer's watch and by the literal checker.
+
+use store_tests::broken::{Broken, Slip};
+use store_tests::explore::{explore, replay, Found, Memo, Scope};
+use store_tests::generate;
+use store_tests::ledger::{check, Aspect, Opening};
+use store_tests::machine::Machine;
+use store_tests::model::{Call, Store, MAX_LIMIT};
+use store_tests::random::Random;
+
+fn put(key: u32, timestamp: u32, draw: u16) -> Call {
+    Call::Put { key, value: 7, timestamp, draw }
+}
+
+/// A small scope in which the slip shows. Its first calls are free of it.
+fn scope(slip: Slip) -> Scope {
+    let (first, scripts) = match slip {
+        Slip::StaleLink => (vec![], vec![vec![put(5, 2, 1)], vec![put(3, 2, 1)]]),
+        Slip::OwnNodeLocked => (vec![put(5, 2, 1)], vec![vec![put(5, 3, 1)], vec![put(3, 2, 1)]]),
+        Slip::EqualDropped => (vec![], vec![vec![put(5, 2, 1), put(5, 2, 1)], vec![]]),
+        Slip::TopFirst => (vec![], vec![vec![put(5, 2, 2)], vec![Call::Get { key: 5 }]]),
+        _ => (vec![], vec![vec![put(5, 2, 1), put(3, 2, 1)], vec![Call::Get { key: 5 }]]),
+    };
+    let opening = Opening { keys: 2, versions: 4, processes: 2, limit: MAX_LIMIT };
+    Scope { opening, memo: Memo::NoTicks, first, scripts }
+}
+
+fn found(slip: Slip) -> (Scope, Found) {
+    let scope = scope(slip);
+    let found = explore(Broken { store: scope.opening.fresh(), slip }, &scope).expect_err("an objection");
+    println!("{slip:?}: {} after {:?}", found.objection, found.schedule);
+    (scope, found)
+}
+
+#[test]
+fn explorer_objects_to_every_slip() {
+    Slip::SEEN.into_iter().for_each(|slip| drop(found(slip)));
+}
+
+/// The same scopes without the slip are in order.
+#[test]
+fn explorer_accepts_the_model_in_the_same_scopes() {
+    for slip in Slip::SEEN {
+        let scope = scope(slip);
+        explore(scope.opening.fresh(), &scope).expect("no objection");
+    }
+}
+
+/// The list that the explorer found wrong is wrong for the literal checker too. (A late effect need not be: there the
+/// watch is stricter, since it has seen the status.)
+#[test]
+fn literal_checker_objects_to_the_lists_found() {
+    for slip in Slip::SEEN.into_iter().filter(|&slip| slip != Slip::LateEffects) {
+        let (scope, found) = found(slip);
+        let history = replay(Broken { store: scope.opening.fresh(), slip }, &scope, &found.schedule);
+        let objections = check(&history);
+        assert!(!objections.is_empty(), "{slip:?}");
+        println!("{slip:?}: {}", objections[0]);
+    }
+}
+
+/// The aspects that the literal checker finds wrong in random runs of one slip.
+fn aspects(slip: Slip) -> Vec<Aspect> {
+    let mut aspects = Vec::new();
+    for seed in 0..150 {
+        for objection in check(&generate::history(seed, |store| Broken { store, slip })) {
+            if !aspects.contains(&objection.aspect) {
+                aspects.push(objection.aspect);
+            }
+        }
+    }
+    aspects
+}
+
+#[test]
+fn literal_checker_objects_in_random_runs() {
+    let due = [
+        (Slip::StaleLink, Aspect::Look),
+        (Slip::OwnNodeLocked, Aspect::Look),
+        (Slip::EqualDropped, Aspect::Answer),
+        (Slip::TopFirst, Aspect::Answer),
+        (Slip::FullEarly, Aspect::Answer),
+        (Slip::GetNone, Aspect::Answer),
+        (Slip::InventedTicks, Aspect::Tick),
+        (Slip::LateEffects, Aspect::Answer),
+        (Slip::InventedTally, Aspect::Tally),
+    ];
+    for (slip, aspect) in due {
+        let aspects = aspects(slip);
+        println!("{slip:?}: {aspects:?}");
+        assert!(aspects.contains(&aspect), "{slip:?}");
+    }
+}
+
+/// Two slips are out of demand 3's sight, as document 01 says of the second; step by step they differ from the model.
+#[test]
+fn slips_out_of_sight_of_demand_3() {
+    for slip in Slip::UNSEEN {
+        assert_eq!(aspects(slip), [], "{slip:?}");
+    }
+}
+
+#[test]
+fn comparison_step_by_step_shows_every_slip() {
+    for slip in Slip::SEEN.into_iter().chain(Slip::UNSEEN) {
+        assert!((0..50).any(|seed| differs(seed, slip)), "{slip:?}");
+    }
+}
+
+/// Runs the model and a broken store side by side.
+fn differs(seed: u64, slip: Slip) -> bool {
+    let mut random = Random::new(seed);
+    let opening = generate::opening(&mut random);
+    let mut model: Store = opening.fresh();
+    let mut broken = Broken { store: opening.fresh(), slip };
+    (0..1_000).any(|_| {
+        let process = random.below(opening.processes);
+        let call = generate::call(&mut random, opening.keys + 1);
+        let same = match model.start(process, call) {
+            Ok(tick) => broken.start(process, call) == Ok(tick),
+            Err(_) => model.step(process) == broken.step(process),
+        };
+        !same || model != broken.store
+    })
+}

@@ -1,0 +1,73 @@
+//! Altered memory: the model answers on everything and never panics (overflow and bounds are checked in all builds).
+
+use std::collections::BTreeMap;
+use store_tests::damage::{case, other_garbage, Operation, Reply};
+use store_tests::model::{Refusal, State, Store};
+
+const CASES: u64 = 120_000;
+
+#[test]
+fn every_case_is_answered_and_refusals_change_nothing() {
+    let mut replies: BTreeMap<String, u64> = BTreeMap::new();
+    for seed in 0..CASES {
+        let case = case(seed);
+        let mut store = case.store.clone();
+        let reply = case.operation.perform(&mut store);
+        let refused_open = matches!((case.operation, reply), (Operation::Open { .. }, Reply::Refused(_)));
+        if refused_open {
+            assert_eq!(store, Store { state: State::CLOSED, ..case.store }, "seed {seed}");
+        } else if let Reply::Refused(_) = reply {
+            assert_eq!(store, case.store, "seed {seed}");
+        }
+        *replies.entry(name(reply)).or_default() += 1;
+    }
+    println!("{replies:?}");
+    for number in 1..=13 {
+        assert!(replies.contains_key(&format!("refused {number}")), "refusal {number} never given");
+    }
+}
+
+fn name(reply: Reply) -> String {
+    match reply {
+        Reply::Refused(refusal) => format!("refused {}", refusal.number()),
+        reply => format!("{reply:?}").split(|c: char| !c.is_alphabetic()).next().unwrap_or("").to_string(),
+    }
+}
+
+/// Nodes and places not in use, and place 0, have no part in any reply, state or word in use.
+#[test]
+fn unused_words_have_no_influence() {
+    for seed in 0..CASES / 4 {
+        let one = case(seed);
+        let other = other_garbage(&one, seed + 1);
+        let (mut left, mut right) = (one.store.clone(), other.store.clone());
+        let reply = one.operation.perform(&mut left);
+        assert_eq!(reply, other.operation.perform(&mut right), "seed {seed}");
+        assert_eq!((&left.state, &left.tally), (&right.state, &right.tally), "seed {seed}");
+        if reply != Reply::Refused(Refusal::AlteredState) {
+            assert_eq!(used(&left), used(&right), "seed {seed}");
+        }
+    }
+}
+
+/// The words in use of both tables, if they are long enough; what was filled by this call is in use now.
+fn used(store: &Store) -> (Option<&[u32]>, Option<&[u32]>) {
+    let State { nodes, versions, .. } = store.state;
+    (store.node_table.get(..16 * (nodes as usize + 1)), store.version_table.get(3..3 * (versions as usize + 1)))
+}
+
+#[test]
+fn states_go_through_words_and_back() {
+    for seed in 0..2_000 {
+        let state = case(seed).store.state;
+        assert_eq!(State::from_words(&state.to_words()), Some(state), "seed {seed}");
+    }
+    assert_eq!(State::from_words(&[]), None);
+}
+
+#[test]
+fn a_seed_gives_one_case() {
+    for seed in 0..200 {
+        assert_eq!(case(seed), case(seed));
+    }
+}

@@ -1,0 +1,123 @@
+//! The sheet program and the random sheets.
+
+use std::collections::BTreeSet;
+use store_tests::sheet::{run, Command};
+use store_tests::{generate, text};
+
+fn lines(text: &str) -> Vec<String> {
+    run(&text::write(text).unwrap()).lines().map(String::from).collect()
+}
+
+#[test]
+fn empty_sheet_prints_nothing() {
+    assert_eq!(run(&[]), "");
+}
+
+#[test]
+fn commands_before_an_open_are_refused_14() {
+    let printed = lines("get 0 7\nput 0 0 1 1 1\nstep 9\nlook 0 0\ninspect\nopen 1 1 1 1\nstep 0");
+    assert_eq!(printed[..5], ["refused 14"; 5]);
+    assert_eq!(printed[5..], ["open 1 1 1 1", "refused 8"]);
+}
+
+#[test]
+fn unknown_bytes_and_cut_commands_end_the_run() {
+    assert_eq!(run(b"\0II"), "refused 15\n", "15 comes before 14");
+    assert_eq!(run(b"S"), "refused 16\n", "16 comes before 14");
+    assert_eq!(run(b"IS"), "refused 14\nrefused 16\n");
+    let whole: Vec<u8> = text::write("open 1 1 1 9\nput 0 1 2 3 4").unwrap();
+    assert_eq!(run(&whole), "open 1 1 1 9\nstart 0 1\n");
+    for cut in 11..whole.len() {
+        assert_eq!(run(&whole[..cut]), "open 1 1 1 9\nrefused 16\n", "cut at {cut}");
+    }
+    for cut in 1..10 {
+        assert_eq!(run(&whole[..cut]), "refused 16\n", "cut at {cut}");
+    }
+}
+
+#[test]
+fn every_byte_is_a_command_or_refused_15() {
+    for byte in 0..=255u8 {
+        let line = if b"OPGSL".contains(&byte) { 16 } else { 15 };
+        let line = if byte == b'I' { 14 } else { line };
+        assert_eq!(run(&[byte]), format!("refused {line}\n"));
+    }
+}
+
+#[test]
+fn each_open_replaces_the_store() {
+    let printed = lines("open 2 3 1 40\nget 0 7\nopen 1 1 2 9\nget 0 7\nget 1 7");
+    assert_eq!(printed, ["open 2 3 1 40", "start 0 1", "open 1 1 2 9", "start 0 1", "start 1 2"]);
+    let refused = [("0 3 1 40", 1), ("1024 3 1 40", 1), ("65535 0 0 0", 1), ("2 0 0 0", 2), ("2 4096 1 40", 2)];
+    let more = [("2 3 0 0", 3), ("2 3 9 40", 3), ("2 3 1 0", 4), ("2 3 1 1000000001", 4), ("2 3 1 0xFFFFFFFF", 4)];
+    for (open, number) in refused.into_iter().chain(more) {
+        let printed = lines(&format!("open 2 3 1 40\nget 0 7\nopen {open}\nstep 0\ninspect"));
+        assert_eq!(
+            printed[2..],
+            [format!("refused {number}"), "refused 14".into(), "refused 14".into()],
+            "open {open}"
+        );
+    }
+}
+
+#[test]
+fn a_longer_sheet() {
+    let printed = lines(
+        "open 2 3 2 90\nput 0 7 250 100 1\nput 1 7 251 99 1\nsteps 0 8\nsteps 1 8\nsteps 0 3\nsteps 1 4\nlook 7 0\nlook 7 1\n\
+         inspect\nget 1 7\ninspect\nsteps 1 8\ninspect\nput 2 7 1 1 1\nput 0 0 1 1 1\nput 0 0xFFFFFFFF 1 1 1\nstep 0",
+    );
+    assert_eq!(printed[18], "step 1 18 wait");
+    assert_eq!(printed[21], "done 0 put new 250 100 1 20 21");
+    assert_eq!(printed[25], "done 1 put too-old 251 99 2 24 25");
+    let rest = ["look 7 0 250 100", "refused 13", "sound", "start 1 26", "refused 7"];
+    assert_eq!(printed[26..31], rest);
+    assert_eq!(printed[37], "done 1 get found 250 100 26 33 33");
+    assert_eq!(printed[38..], ["refused 8", "sound", "refused 5", "refused 6", "refused 6", "refused 8"]);
+}
+
+#[test]
+fn commands_decode_as_encoded() {
+    for seed in 0..8 {
+        let sheet = generate::sheet(seed * 8 + 3);
+        let mut rest = &sheet[..];
+        while let Some(Ok((command, after))) = (!rest.is_empty()).then(|| Command::decode(rest)) {
+            let mut bytes = Vec::new();
+            command.encode(&mut bytes);
+            assert_eq!(bytes, rest[..rest.len() - after.len()], "seed {seed}");
+            rest = after;
+        }
+    }
+}
+
+/// The random sheets reach all that a sheet can print. (10, 11 and faults need altered memory.)
+#[test]
+fn random_sheets_reach_everything() {
+    let mut seen = BTreeSet::new();
+    let mut commands = 0;
+    for seed in 0..64 {
+        let printed = run(&generate::sheet(seed));
+        for line in printed.lines() {
+            commands += 1;
+            let words: Vec<&str> = line.split(' ').collect();
+            seen.insert(match words[0] {
+                "refused" => line.to_string(),
+                "step" => words[3].to_string(),
+                "done" => format!("{} {}", words[2], words[3]),
+                word => word.to_string(),
+            });
+        }
+    }
+    println!("{commands} commands");
+    let refusals = [1, 2, 3, 4, 5, 6, 7, 8, 9, 12, 13, 14, 15, 16].map(|number| format!("refused {number}"));
+    let answers = ["too-old", "readings-full", "added", "trays-full", "new"].map(|answer| format!("put {answer}"));
+    let others = ["get found", "get none", "open", "start", "on", "wait", "look", "sound"].map(String::from);
+    let due: BTreeSet<String> = refusals.into_iter().chain(answers).chain(others).collect();
+    assert_eq!(seen, due);
+}
+
+#[test]
+fn a_seed_gives_one_sheet() {
+    for seed in [0, 1, 2, 3, 4, 7, u64::MAX] {
+        assert_eq!(generate::sheet(seed), generate::sheet(seed));
+    }
+}
