@@ -32,3 +32,4 @@ pub mod LevelInspected
 pub mod Inspected
 pub mod Rested
 pub mod Claimed
+pub mod Touched

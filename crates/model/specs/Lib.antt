@@ -8,5 +8,6 @@ pub mod Phases
 pub mod Calls
 pub mod Inspection
 pub mod Soundness
+pub mod Touched
 pub mod History
 pub mod Linearizability
