@@ -1,4 +1,5 @@
-// The refusals of each call, in document 01's order: the first condition met decides.
+// The refusals of each call, in document 01's order: the first condition met decides. A local named by a number has that
+// refusal and all that come after it.
 ghost use mathlib.Core.Path.{_≡_};
 ghost use mathlib.Core.Bool.{not};
 ghost use Prim.Native.Nat.{_≤_};
@@ -7,7 +8,7 @@ ghost use Rattle.model.specs.Layout.{limits};
 ghost use Rattle.model.specs.State.{isIdle};
 ghost use Rattle.model.specs.Calls.{denyIf, openPermit, startPermit, stepPermit, lookPermit, statusPermit};
 ghost use Rattle.model.specs.Inspection.{idleBelow, inspectPermit};
-ghost use Rattle.permits.specs.Header.{headerOf, Shows};
+ghost use Rattle.permits.specs.Header.{headerOf, Shows, storeOf};
 use crate::header::Header;
 use crate::header::header_of;
 use crate::lawful::lawful_nodes;
@@ -49,20 +50,14 @@ fn is_idle(kind: Kind) -> bool
 pub fn open_permit(nodes: &[u32], versions: &[u32], processes: u32, limit: u32) -> Permit
     ensures { λ r. ⌜ r ≡ openPermit (now (nodes .entry)) (now (versions .entry)) processes limit ⌝ }
 {
-    let limited = within(1, State::EVENTS, limit);
-    let counted = within(1, State::PROCESSES, processes);
-    let event_limit = deny_unless(limited, Refusal::EventLimit, Permit::Granted);
-    let process_count = deny_unless(counted, Refusal::ProcessCount, event_limit);
-    let version_length = deny_unless(
-        lawful_versions(versions.len()),
-        Refusal::VersionLength,
-        process_count,
-    );
-    deny_unless(
-        lawful_nodes(nodes.len()),
-        Refusal::NodeLength,
-        version_length,
-    )
+    let node_length = lawful_nodes(nodes.len());
+    let version_length = lawful_versions(versions.len());
+    let process_count = within(1, State::PROCESSES, processes);
+    let event_limit = within(1, State::EVENTS, limit);
+    let four = deny_unless(event_limit, Refusal::EventLimit, Permit::Granted);
+    let three = deny_unless(process_count, Refusal::ProcessCount, four);
+    let two = deny_unless(version_length, Refusal::VersionLength, three);
+    deny_unless(node_length, Refusal::NodeLength, two)
 }
 
 // `kind` is that of the process's call.
@@ -76,15 +71,16 @@ pub fn start_permit(
 ) -> Permit
     ensures { λ r. ⌜ ((s : State) → Shows s process h kind → r ≡ startPermit s (now (nodes .entry)) (now (versions .entry)) process key) ⌝ }
 {
-    let spent = deny_if(h.limit <= h.events, Refusal::Spent, Permit::Granted);
-    let busy = deny_unless(is_idle(kind), Refusal::Busy, spent);
-    let bad_key = deny_unless(within(1, State::KEY, key), Refusal::BadKey, busy);
-    let no_process = deny_if(h.processes <= process, Refusal::NoProcess, bad_key);
-    deny_unless(
-        lawful_store(h, nodes, versions),
-        Refusal::Corrupt,
-        no_process,
-    )
+    let lawful = lawful_store(h, nodes, versions);
+    let no_process = h.processes <= process;
+    let lawful_key = within(1, State::KEY, key);
+    let idle = is_idle(kind);
+    let spent = h.limit <= h.events;
+    let nine = deny_if(spent, Refusal::Spent, Permit::Granted);
+    let seven = deny_unless(idle, Refusal::Busy, nine);
+    let six = deny_unless(lawful_key, Refusal::BadKey, seven);
+    let five = deny_if(no_process, Refusal::NoProcess, six);
+    deny_unless(lawful, Refusal::Corrupt, five)
 }
 
 // `kind` is that of the process's call.
@@ -96,27 +92,34 @@ pub fn step_permit(
     tally: &[u32],
     process: u32,
 ) -> Permit
-    ensures { λ r. ⌜ ((s : State) → Shows s process h kind → r ≡ stepPermit (record { state = s; nodes = now (nodes .entry); versions = now (versions .entry); tally = now (tally .entry) }) process) ⌝ }
+    ensures { λ r. ⌜ ((s : State) → Shows s process h kind → r ≡ stepPermit (storeOf s (now (nodes .entry)) (now (versions .entry)) (now (tally .entry))) process) ⌝ }
 {
-    let spent = deny_if(h.limit <= h.events, Refusal::Spent, Permit::Granted);
-    let no_call = deny_if(is_idle(kind), Refusal::NoCall, spent);
-    let no_process = deny_if(h.processes <= process, Refusal::NoProcess, no_call);
     let lawful = lawful_store(h, nodes, versions) & (tally.len() == State::ANSWERS as usize);
-    deny_unless(lawful, Refusal::Corrupt, no_process)
+    let no_process = h.processes <= process;
+    let no_call = is_idle(kind);
+    let spent = h.limit <= h.events;
+    let nine = deny_if(spent, Refusal::Spent, Permit::Granted);
+    let eight = deny_if(no_call, Refusal::NoCall, nine);
+    let five = deny_if(no_process, Refusal::NoProcess, eight);
+    deny_unless(lawful, Refusal::Corrupt, five)
 }
 
 pub fn look_permit(h: Header, nodes: &[u32], versions: &[u32], key: u32) -> Permit
     ensures { λ r. ⌜ ((s : State) → headerOf s ≡ h → r ≡ lookPermit s (now (nodes .entry)) (now (versions .entry)) key) ⌝ }
 {
-    let bad_key = deny_unless(within(1, State::KEY, key), Refusal::BadKey, Permit::Granted);
-    deny_unless(lawful_store(h, nodes, versions), Refusal::Corrupt, bad_key)
+    let lawful = lawful_store(h, nodes, versions);
+    let lawful_key = within(1, State::KEY, key);
+    let six = deny_unless(lawful_key, Refusal::BadKey, Permit::Granted);
+    deny_unless(lawful, Refusal::Corrupt, six)
 }
 
 pub fn status_permit(h: Header, process: u32) -> Permit
     ensures { λ r. ⌜ ((s : State) → headerOf s ≡ h → r ≡ statusPermit s process) ⌝ }
 {
-    let no_process = deny_if(h.processes <= process, Refusal::NoProcess, Permit::Granted);
-    deny_unless(lawful_state(h), Refusal::Corrupt, no_process)
+    let lawful = lawful_state(h);
+    let no_process = h.processes <= process;
+    let five = deny_if(no_process, Refusal::NoProcess, Permit::Granted);
+    deny_unless(lawful, Refusal::Corrupt, five)
 }
 
 // Whether none of the first `n` processes has a call.

@@ -7,7 +7,7 @@ use lib.Dec.{ltb, leb, eqb}
 use lib.ListN.{length}
 use mathlib.Core.List.{List}
 use native.Mathlib.Omega.{arith}
-use borrow.Author.Tests.{leb-true, leb-false, le-leb}
+use borrow.Author.Tests.{leb-true, leb-false, le-leb, eqb-true, eq-eqb}
 use Rattle.model.specs.Layout.{capacity, nodeWords, versionWords}
 use Rattle.tables.specs.Room.{NodeRoom, VersionRoom}
 
@@ -37,3 +37,6 @@ node-room nodes used h = omega (arith, leb-false)
 pub version-room : (versions : List ℕ) (used : ℕ) → leb (capacity versionWords (length versions)) used ≡ false → VersionRoom versions (used + 1)
 unfolding capacity
 version-room versions used h = omega (arith, leb-false)
+
+pub eqb-iff : (a b : ℕ) → (eqb a b ≡ true) ↔ (a ≡ b)
+eqb-iff a b = (eqb-true a b, eq-eqb a b)

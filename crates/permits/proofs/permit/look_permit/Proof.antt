@@ -4,14 +4,14 @@ use Rattle.model.specs.Calls.{lookPermit}
 use Rattle.permits.proofs.permit.look_permit.Statement.{statement}
 use Rattle.permits.proofs.permit.look_permit.Tie as tie
 
+lawful-store-requires : tie.Need-lawful-store-requires
+lawful-store-requires c κs = search needs
+
 within-requires : tie.Need-within-requires
 within-requires c κs = search needs
 
 deny-unless-requires : tie.Need-deny-unless-requires
 deny-unless-requires c κs = search needs
-
-lawful-store-requires : tie.Need-lawful-store-requires
-lawful-store-requires c κs = search needs
 
 deny-unless-requires-2 : tie.Need-deny-unless-requires-2
 deny-unless-requires-2 c κs = search needs
@@ -22,17 +22,17 @@ returns c =
     λ s e.
     simp (
       c .deny-unless2 .ensures,
-      c .before .lawful-store .ensures s e,
-      c .before .before .deny-unless .ensures,
-      c .before .before .before .within .ensures,
+      c .before .deny-unless .ensures,
+      c .before .before .within .ensures,
+      c .before .before .before .lawful-store .ensures s e,
     )
 
 pub look-permit-spec : {M : Type 1} → statement M
 look-permit-spec =
     tie.close
     (tie.spec
+    lawful-store-requires
     within-requires
     deny-unless-requires
-    lawful-store-requires
     deny-unless-requires-2
     returns)

@@ -4,6 +4,12 @@ use Rattle.model.specs.Calls.{openPermit}
 use Rattle.permits.proofs.permit.open_permit.Statement.{statement}
 use Rattle.permits.proofs.permit.open_permit.Tie as tie
 
+lawful-nodes-requires : tie.Need-lawful-nodes-requires
+lawful-nodes-requires c κs = search needs
+
+lawful-versions-requires : tie.Need-lawful-versions-requires
+lawful-versions-requires c κs = search needs
+
 within-requires : tie.Need-within-requires
 within-requires c κs = search needs
 
@@ -16,14 +22,8 @@ deny-unless-requires c κs = search needs
 deny-unless-requires-2 : tie.Need-deny-unless-requires-2
 deny-unless-requires-2 c κs = search needs
 
-lawful-versions-requires : tie.Need-lawful-versions-requires
-lawful-versions-requires c κs = search needs
-
 deny-unless-requires-3 : tie.Need-deny-unless-requires-3
 deny-unless-requires-3 c κs = search needs
-
-lawful-nodes-requires : tie.Need-lawful-nodes-requires
-lawful-nodes-requires c κs = search needs
 
 deny-unless-requires-4 : tie.Need-deny-unless-requires-4
 deny-unless-requires-4 c κs = search needs
@@ -33,25 +33,25 @@ unfolding openPermit
 returns c =
     simp (
       c .deny-unless4 .ensures,
-      c .before .lawful-nodes .ensures,
-      c .before .before .deny-unless3 .ensures,
-      c .before .before .before .lawful-versions .ensures,
-      c .before .before .before .before .deny-unless2 .ensures,
-      c .before .before .before .before .before .deny-unless .ensures,
-      c .before .before .before .before .before .before .within2 .ensures,
-      c .before .before .before .before .before .before .before .within .ensures,
+      c .before .deny-unless3 .ensures,
+      c .before .before .deny-unless2 .ensures,
+      c .before .before .before .deny-unless .ensures,
+      c .before .before .before .before .within2 .ensures,
+      c .before .before .before .before .before .within .ensures,
+      c .before .before .before .before .before .before .lawful-versions .ensures,
+      c .before .before .before .before .before .before .before .lawful-nodes .ensures,
     )
 
 pub open-permit-spec : {M : Type 1} → statement M
 open-permit-spec =
     tie.close
     (tie.spec
+    lawful-nodes-requires
+    lawful-versions-requires
     within-requires
     within-requires-2
     deny-unless-requires
     deny-unless-requires-2
-    lawful-versions-requires
     deny-unless-requires-3
-    lawful-nodes-requires
     deny-unless-requires-4
     returns)

@@ -4,26 +4,26 @@ use Rattle.permits.proofs.Laws.{start-kind}
 use Rattle.permits.proofs.permit.start_permit.Statement.{statement}
 use Rattle.permits.proofs.permit.start_permit.Tie as tie
 
-deny-if-requires : tie.Need-deny-if-requires
-deny-if-requires c κs = search needs
+lawful-store-requires : tie.Need-lawful-store-requires
+lawful-store-requires c κs = search needs
+
+within-requires : tie.Need-within-requires
+within-requires c κs = search needs
 
 is-idle-requires : tie.Need-is-idle-requires
 is-idle-requires c κs = search needs
 
+deny-if-requires : tie.Need-deny-if-requires
+deny-if-requires c κs = search needs
+
 deny-unless-requires : tie.Need-deny-unless-requires
 deny-unless-requires c κs = search needs
-
-within-requires : tie.Need-within-requires
-within-requires c κs = search needs
 
 deny-unless-requires-2 : tie.Need-deny-unless-requires-2
 deny-unless-requires-2 c κs = search needs
 
 deny-if-requires-2 : tie.Need-deny-if-requires-2
 deny-if-requires-2 c κs = search needs
-
-lawful-store-requires : tie.Need-lawful-store-requires
-lawful-store-requires c κs = search needs
 
 deny-unless-requires-3 : tie.Need-deny-unless-requires-3
 deny-unless-requires-3 c κs = search needs
@@ -32,16 +32,17 @@ returns : tie.Need-returns
 returns c =
     λ s e.
     let a = c .before .before .before .before .before .before .before .before .before .before .before .before .args in
+    let k = start-kind s (a .nodes .now) (a .versions .now) (a .process) (a .kind) (e .found) in
     simp (
-      start-kind s (a .nodes .now) (a .versions .now) (a .process) (a .kind) (e .found),
+      k,
       c .deny-unless3 .ensures,
-      c .before .lawful-store .ensures s (e .same),
-      c .before .before .deny-if2 .ensures,
-      c .before .before .before .before .deny-unless2 .ensures,
-      c .before .before .before .before .before .within .ensures,
-      c .before .before .before .before .before .before .deny-unless .ensures,
-      c .before .before .before .before .before .before .before .is-idle .ensures,
-      c .before .before .before .before .before .before .before .before .deny-if .ensures,
+      c .before .deny-if2 .ensures,
+      c .before .before .deny-unless2 .ensures,
+      c .before .before .before .deny-unless .ensures,
+      c .before .before .before .before .deny-if .ensures,
+      c .before .before .before .before .before .before .is-idle .ensures,
+      c .before .before .before .before .before .before .before .within .ensures,
+      c .before .before .before .before .before .before .before .before .before .lawful-store .ensures s (e .same),
       ← e .same,
     )
 
@@ -49,12 +50,12 @@ pub start-permit-spec : {M : Type 1} → statement M
 start-permit-spec =
     tie.close
     (tie.spec
-    deny-if-requires
-    is-idle-requires
-    deny-unless-requires
+    lawful-store-requires
     within-requires
+    is-idle-requires
+    deny-if-requires
+    deny-unless-requires
     deny-unless-requires-2
     deny-if-requires-2
-    lawful-store-requires
     deny-unless-requires-3
     returns)

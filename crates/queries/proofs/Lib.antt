@@ -1,0 +1,4 @@
+pub mod LookTurns
+pub mod ChainTurns
+pub mod LevelTurns
+pub mod Granted
