@@ -25,13 +25,13 @@ returns : tie.Need-returns Inv-loop μ-loop
 returns c =
     let a = c .before .before .before .before .before .args in
     let l = c .before .before .before .loop in
-    sym (l .inv .2 ∙ back-damaged (a .versions .now) (l .left) (l .i) _ (c .before .before .loop-test .taken) (c .before .prev-at .ensures) (c .if1 .taken))
+    sym (l .inv .2 ∙ back-damaged (a .versions .now) (l .left) (l .i) _ (omega arith) (c .before .prev-at .ensures) (c .if1 .taken))
 
 returns-2 : tie.Need-returns-2 Inv-loop μ-loop
 returns-2 c =
     let a = c .before .before .before .before .before .before .args in
     let l = c .before .before .before .before .loop in
-    sym (l .inv .2 ∙ back-short (a .versions .now) (l .left) (l .i) _ (c .before .before .before .loop-test .taken) (c .before .before .prev-at .ensures) (c .before .if1 .left) (c .if2 .taken))
+    sym (l .inv .2 ∙ back-short (a .versions .now) (l .left) (l .i) _ (omega arith) (c .before .before .prev-at .ensures) (c .before .if1 .left) (c .if2 .taken))
 
 sub-left : tie.Need-sub-left Inv-loop μ-loop
 sub-left c = search needs
@@ -43,7 +43,7 @@ loop-again : tie.Need-loop-again Inv-loop μ-loop
 loop-again c =
     let a = c .before .before .before .before .before .before .args in
     let l = c .before .before .before .before .loop in
-    (omega arith, omega arith, l .inv .2 ∙ back-on (a .versions .now) (l .left) (l .i) _ (c .before .before .before .loop-test .taken) (c .before .before .prev-at .ensures) (c .before .if1 .left) (c .if2 .left))
+    (omega arith, omega arith, l .inv .2 ∙ back-on (a .versions .now) (l .left) (l .i) _ (omega arith) (c .before .before .prev-at .ensures) (c .before .if1 .left) (c .if2 .left))
 
 version-at-requires : tie.Need-version-at-requires Inv-loop μ-loop
 version-at-requires c κs = search needs
@@ -52,7 +52,7 @@ returns-3 : tie.Need-returns-3 Inv-loop μ-loop
 returns-3 c =
     let a = c .before .before .before .before .args in
     let l = c .before .before .loop in
-    simp (c .version-at .ensures) (sym (l .inv .2 ∙ back-end (a .versions .now) (l .left) (l .i) (c .before .loop-test .left)))
+    simp (c .version-at .ensures) (sym (l .inv .2 ∙ back-end (a .versions .now) (l .left) (l .i) (omega arith)))
 
 pub version-back-spec : {M : Type 1} → statement M
 version-back-spec =
