@@ -3,7 +3,7 @@ use Prim.Native.Nat.{ℕ, zero, suc, _+_, _-_, _*_, _≤_, _<_}
 use mathlib.Core.Bool.{Bool, true, false, not, _&&_, _||_, and-eq-true-iff}
 use mathlib.Core.List.{List}
 use mathlib.Core.Logic.{_↔_}
-use mathlib.Core.Path.{_≡_, refl, sym}
+use mathlib.Core.Path.{_≡_, refl, sym, _∙_}
 use native.Mathlib.Numerals.{unary-clauses}
 use native.Mathlib.Omega.{arith}
 use borrow.Author.Tests.{leb-true, leb-false, ltb-true, ltb-false, eqb-true, eqb-false, le-leb, lt-leb, eq-eqb, not-false}
@@ -17,8 +17,8 @@ use Rattle.model.specs.declared.types.Refusal.the-variants.{Corrupt, NoProcess,
 use Rattle.model.specs.declared.types.State.{State}
 use Rattle.model.specs.Choice.{if_then_else_}
 use Rattle.model.specs.Layout.{limits, nodeWords, versionWords, capacity}
-use Rattle.model.specs.State.{processAt, isIdle, lawfulKey, lawfulLength, lawfulState, lawfulStore}
-use Rattle.model.specs.Calls.{denyIf, noSuch, spent, startPermit, Store, stepPermit}
+use Rattle.model.specs.State.{processAt, isIdle, lawfulKey, lawfulNodes, lawfulVersions, lawfulLength, lawfulState, lawfulStore}
+use Rattle.model.specs.Calls.{denyIf, noSuch, spent, openPermit, startPermit, Store, stepPermit, statusPermit}
 use Rattle.model.specs.Inspection.{idleBelow}
 
 -- n - 1 is 0 for n = 0 too, so nothing in use is always within it
@@ -44,6 +44,10 @@ leb-iff a b = (leb-true a b, le-leb a b)
 
 eqb-iff : (a b : ℕ) → (eqb a b ≡ true) ↔ (a ≡ b)
 eqb-iff a b = (eqb-true a b, eq-eqb a b)
+
+pub lawful-processes : (s : State) → lawfulState s ≡ true → s .processes ≤ limits .processes
+unfolding lawfulState
+lawful-processes s h = let f = simp (and-eq-true-iff, leb-iff) at h in omega arith
 
 -- what may be gone by where refusal 10 is not given
 pub record Lawful (s : State) (nodes versions : List ℕ) : Type 0 where
@@ -76,17 +80,32 @@ granted-iff : (b : Bool) (r : Refusal) (rest : Permit)
 granted-iff false r rest = (λ e. (refl, e), λ f. f .1)
 granted-iff true r rest = (λ e. (cc, cc), λ f. cc (f .0))
 
+-- what an accepted opening may go by
+pub record MayOpen (nodes versions : List ℕ) : Type 0 where
+  pub head : nodeWords ≤ length nodes
+  pub few-nodes : length nodes ≤ nodeWords * suc (limits .nodes)
+  pub few-versions : length versions ≤ versionWords * suc (limits .versions)
+
+pub may-open : (nodes versions : List ℕ) (processes limit : ℕ) {p : Permit} → p ≡ openPermit nodes versions processes limit
+    → p ≡ Granted → MayOpen nodes versions
+unfolding openPermit lawfulLength
+may-open nodes versions processes limit e g =
+    let f = simp granted-iff at (sym e ∙ g) in
+    let n = simp (and-eq-true-iff, leb-iff, eqb-iff) at (not-false (lawfulNodes (length nodes)) (f .0)) in
+    let v = simp (and-eq-true-iff, leb-iff, eqb-iff) at (not-false (lawfulVersions (length versions)) (f .1 .0)) in
+    record { head = omega arith; few-nodes = omega arith; few-versions = omega arith }
+
 -- what an accepted start may go by
 pub record MayStart (s : State) (nodes versions : List ℕ) (i : ℕ) : Type 0 where
   pub lawful : Lawful s nodes versions
   pub process : i < s .processes
   pub event : s .events < s .limit
 
-pub may-start : (s : State) (nodes versions : List ℕ) (i k : ℕ) → startPermit s nodes versions i k ≡ Granted
-    → MayStart s nodes versions i
+pub may-start : (s : State) (nodes versions : List ℕ) (i k : ℕ) {p : Permit} → p ≡ startPermit s nodes versions i k
+    → p ≡ Granted → MayStart s nodes versions i
 unfolding startPermit
-may-start s nodes versions i k e =
-    let f = simp granted-iff at e in
+may-start s nodes versions i k e g =
+    let f = simp granted-iff at (sym e ∙ g) in
     record {
       lawful = lawful-store s nodes versions (not-false _ (f .0));
       process = leb-false _ _ (f .1 .0);
@@ -98,10 +117,10 @@ pub record MayStep (w : Store) (i : ℕ) : Type 0 where
   pub start : MayStart (w .state) (w .nodes) (w .versions) i
   pub tally : length (w .tally) ≡ limits .answers
 
-pub may-step : (w : Store) (i : ℕ) → stepPermit w i ≡ Granted → MayStep w i
+pub may-step : (w : Store) (i : ℕ) {p : Permit} → p ≡ stepPermit w i → p ≡ Granted → MayStep w i
 unfolding stepPermit
-may-step w i e =
-    let f = simp granted-iff at e in
+may-step w i e g =
+    let f = simp granted-iff at (sym e ∙ g) in
     let t = lawfulStore (w .state) (w .nodes) (w .versions) && eqb (length (w .tally)) (limits .answers) in
     let l = simp and-eq-true-iff at (not-false t (f .0)) in
     record {
@@ -112,6 +131,14 @@ may-step w i e =
       };
       tally = eqb-true _ _ (l .1);
     }
+
+-- where standing is told, the process stands in the array
+pub may-tell : (s : State) (i : ℕ) {p : Permit} → p ≡ statusPermit s i → p ≡ Granted → i < limits .processes
+unfolding statusPermit
+may-tell s i e g =
+    let f = simp granted-iff at (sym e ∙ g) in
+    let p = lawful-processes s (not-false (lawfulState s) (f .0)) in
+    omega (arith, leb-false (s .processes) i (f .1 .0))
 
 -- ---- the kind
 

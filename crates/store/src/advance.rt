@@ -1,0 +1,67 @@
+// One step of one process, on small records: its turn, what that leaves of it, and the tally.
+ghost use mathlib.Core.Path.{_≡_};
+ghost use lib.ListN.{length};
+ghost use Rattle.model.specs.Layout.{limits};
+ghost use Rattle.tables.specs.Room.{memory};
+ghost use Rattle.phases.specs.Turn.{Lent};
+ghost use Rattle.store.specs.Advance.{advanceOf, advanced};
+use crate::after::is_refusal;
+use crate::after::outcome_of;
+use crate::after::process_after;
+use crate::tally::count_end;
+use crate::types::Advanced;
+use model::types::Counts;
+use model::types::Process;
+use model::types::Refusal;
+use model::types::Stepping;
+use phases::turn::turn;
+
+// `holder` is the process's number plus 1, `tick` that of this event.
+pub fn advance(
+    p: Process,
+    counts: Counts,
+    holder: u32,
+    tick: u32,
+    nodes: &mut [u32],
+    versions: &mut [u32],
+    tally: &mut [u32],
+) -> Advanced
+    requires { ⌜ Lent (now nodes) (now versions) counts ⌝ }
+    requires { ⌜ length (now tally) ≡ limits .answers ⌝ }
+    ensures { λ r. ⌜ advanced r (now (nodes .exit)) (now (versions .exit)) (now (tally .exit)) ≡ advanceOf holder tick p (memory (now (nodes .entry)) (now (versions .entry)) counts) (now (tally .entry)) ⌝ }
+{
+    let call = p.call;
+    let cursor = p.cursor;
+    let effect = p.effect;
+    let preds = p.preds;
+    let t = turn(
+        call,
+        cursor,
+        effect,
+        preds,
+        counts,
+        holder,
+        tick,
+        nodes,
+        versions,
+    );
+    let mv = t.mv;
+    let left = t.counts;
+    if is_refusal(mv) {
+        return Advanced {
+            refused: true,
+            outcome: Stepping::Refused(Refusal::Damaged),
+            process: p,
+            counts: left,
+        };
+    }
+    count_end(tally, mv);
+    let outcome = outcome_of(tick, call, mv);
+    let process = process_after(tick, p, mv);
+    Advanced {
+        refused: false,
+        outcome,
+        process,
+        counts: left,
+    }
+}
