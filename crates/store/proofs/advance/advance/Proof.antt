@@ -1,3 +1,4 @@
+-- Each way through `advance` is a case of `advanceOf`.
 use mathlib.Core.Path.{sym, _∙_, ap}
 use native.Mathlib.Omega.{arith}
 use Rattle.model.specs.Phases.{turnOf, lawfulProcess}
@@ -7,60 +8,41 @@ use Rattle.store.proofs.Laws.{refused-advance, moved-advance, level-fit
 use borrow.Author.Needs.{needs}
 use Rattle.store.proofs.advance.advance.Statement.{statement}
 use Rattle.store.proofs.advance.advance.Tie as tie
-use Rattle.store.proofs.advance.advance.Reads as reads
-use Rattle.store.proofs.advance.advance.Lts as lts
-use Rattle.phases.proofs.turn.turn.Reads as turn-reads
-use Rattle.store.proofs.after.is_refusal.Reads as is-refusal-reads
-use Rattle.store.proofs.after.outcome_of.Reads as outcome-of-reads
-use Rattle.store.proofs.after.process_after.Reads as process-after-reads
-use Rattle.store.proofs.tally.count_end.Reads as count-end-reads
 
--- src/advance.rt:37:9
 turn-requires : tie.Need-turn-requires
 turn-requires c κs = search needs
 
--- src/advance.rt:50:8
 is-refusal-requires : tie.Need-is-refusal-requires
 is-refusal-requires c κs = search needs
 
--- src/advance.rt:51:9
 same-length : tie.Need-same-length
 same-length c = search needs
 
--- src/advance.rt:51:9
 same-length-2 : tie.Need-same-length-2
 same-length-2 c = search needs
 
--- src/advance.rt:51:9
 returns : tie.Need-returns
 unfolding advanceOf
 returns c = refused-advance (c .before .before .before .before .before .before .before .before .before .before .before .before .before .before .before .before .before .args .tick) (c .before .before .before .before .before .before .before .before .before .before .before .before .before .before .before .before .before .args .p) (c .before .before .before .before .before .before .before .before .before .before .before .before .before .before .before .before .before .args .tally .now) (c .before .before .before .before .before .before .before .turn .result .mv) _ (sym (c .before .is-refusal .ensures) ∙ c .if1 .taken) ∙ ap (advanceBy (c .before .before .before .before .before .before .before .before .before .before .before .before .before .before .before .before .before .args .tick) (c .before .before .before .before .before .before .before .before .before .before .before .before .before .before .before .before .before .args .p) (c .before .before .before .before .before .before .before .before .before .before .before .before .before .before .before .before .before .args .tally .now)) (c .before .before .before .before .before .before .before .turn .ensures)
 
--- src/advance.rt:58:5
 count-end-requires : tie.Need-count-end-requires
 count-end-requires c κs = search needs
 
--- src/advance.rt:59:9
 outcome-of-requires : tie.Need-outcome-of-requires
 outcome-of-requires c κs = search needs
 
--- src/advance.rt:60:9
 process-after-requires : tie.Need-process-after-requires
 process-after-requires c κs = level-fits (c .before .before .before .before .before .before .before .before .before .before .before .before .before .before .before .before .before .before .before .before .before .before .args .holder) (c .before .before .before .before .before .before .before .before .before .before .before .before .before .before .before .before .before .before .before .before .before .before .args .tick) (c .before .before .before .before .before .before .before .before .before .before .before .before .before .before .before .before .before .before .before .before .before .before .args .p) _ (sym (ap (λ v. refuses (v .move)) (c .before .before .before .before .before .before .before .before .before .before .before .before .turn .ensures)) ∙ sym (c .before .before .before .before .before .before .is-refusal .ensures) ∙ c .before .before .before .before .before .if1 .left)
 
--- src/advance.rt:20:1
 same-length-3 : tie.Need-same-length-3
 same-length-3 c = search needs
 
--- src/advance.rt:20:1
 same-length-4 : tie.Need-same-length-4
 same-length-4 c = search needs
 
--- src/advance.rt:20:1
 same-length-5 : tie.Need-same-length-5
 same-length-5 c = search needs
 
--- src/advance.rt:20:1
 returns-2 : tie.Need-returns-2
 unfolding advanceOf
 returns-2 c = moved-advance (c .before .before .before .before .before .before .before .before .before .before .before .before .before .before .before .before .before .before .before .before .before .before .before .args .tick) (c .before .before .before .before .before .before .before .before .before .before .before .before .before .before .before .before .before .before .before .before .before .before .before .args .p) (c .before .before .before .before .before .before .before .before .before .before .before .before .before .before .before .before .before .before .before .before .before .before .before .args .tally .now) (c .before .before .before .before .before .before .before .before .before .before .before .before .before .turn .result .mv) _ _ _ _ (sym (c .before .before .before .before .before .before .before .is-refusal .ensures) ∙ c .before .before .before .before .before .before .if1 .left) (c .before .outcome-of .ensures) (c .process-after .ensures) (c .before .before .before .before .count-end .ensures) ∙ ap (advanceBy (c .before .before .before .before .before .before .before .before .before .before .before .before .before .before .before .before .before .before .before .before .before .before .before .args .tick) (c .before .before .before .before .before .before .before .before .before .before .before .before .before .before .before .before .before .before .before .before .before .before .before .args .p) (c .before .before .before .before .before .before .before .before .before .before .before .before .before .before .before .before .before .before .before .before .before .before .before .args .tally .now)) (c .before .before .before .before .before .before .before .before .before .before .before .before .before .turn .ensures)
@@ -69,15 +51,5 @@ pub advance-spec : {M : Type 1} → statement M
 advance-spec =
     tie.close
     (tie.spec
-    turn-requires
-    is-refusal-requires
-    same-length
-    same-length-2
-    returns
-    count-end-requires
-    outcome-of-requires
-    process-after-requires
-    same-length-3
-    same-length-4
-    same-length-5
-    returns-2)
+    turn-requires is-refusal-requires same-length same-length-2 returns count-end-requires outcome-of-requires
+    process-after-requires same-length-3 same-length-4 same-length-5 returns-2)

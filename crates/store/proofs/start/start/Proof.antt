@@ -1,3 +1,4 @@
+-- Each way through `start` is a case of `startBy`.
 use native.Mathlib.Omega.{arith}
 use Rattle.permits.proofs.Laws.{MayStart, may-start}
 use Rattle.model.specs.Calls.{startPermit, startBy}
@@ -5,12 +6,6 @@ use mathlib.Core.Path.{_≡_, sym}
 use borrow.Author.Needs.{needs}
 use Rattle.store.proofs.start.start.Statement.{statement}
 use Rattle.store.proofs.start.start.Tie as tie
-use Rattle.store.proofs.start.start.Reads as reads
-use Rattle.store.proofs.start.start.Lts as lts
-use Rattle.permits.proofs.header.header_of.Reads as header-of-reads
-use Rattle.permits.proofs.permit.start_permit.Reads as start-permit-reads
-use Rattle.store.proofs.slot.slot.Reads as slot-reads
-use Rattle.store.proofs.start.begin.Reads as begin-reads
 
 -- the permit is the definition's: the kind was read at the process's own place
 permit-is : (c : tie.After-start-permit) → let a = c .before .before .before .before .before .before .before .args in
@@ -26,56 +21,43 @@ may : (c : tie.After-enum-told) → let a = c .before .before .before .before .b
     MayStart (a .t1) (a .nodes .now) (a .versions .now) (a .process)
 may c = may-start _ _ _ _ _ (permit-is (c .before .before)) (c .enum-told .given .1)
 
--- src/start.rt:69:9
 slot-requires : tie.Need-slot-requires
 slot-requires c κs = search needs
 
--- src/start.rt:70:13
 mul-p : tie.Need-mul-p
 mul-p c = search needs
 
--- src/start.rt:70:13
 element-copy-out-p : tie.Need-element-copy-out-p
 element-copy-out-p c = search needs
 
--- src/start.rt:73:9
 header-of-requires : tie.Need-header-of-requires
 header-of-requires c κs = search needs
 
--- src/start.rt:74:9
 start-permit-requires : tie.Need-start-permit-requires
 start-permit-requires c κs = search needs
 
--- src/start.rt:76:24
 enum-known-permit : tie.Need-enum-known-permit
 enum-known-permit c = search needs
 
--- src/start.rt:81:24
 enum-told : tie.Need-enum-told
 enum-told c = search needs
 
--- src/start.rt:81:24
 add-tick : tie.Need-add-tick
 add-tick c = let f = may c in search needs
 
--- src/start.rt:90:28
 begin-requires : tie.Need-begin-requires
 begin-requires c κs = search needs
 
--- src/start.rt:90:13
 mul-t30 : tie.Need-mul-t30
 mul-t30 c = search needs
 
--- src/start.rt:90:13
 element-set-from-s : tie.Need-element-set-from-s
 element-set-from-s c = search needs
 
--- src/start.rt:56:1
 returns : tie.Need-returns
 unfolding startBy
 returns c = simp (← permit-is (c .before .before .before), c .before .permit .given .1)
 
--- src/start.rt:56:1
 returns-2 : tie.Need-returns-2
 unfolding startBy
 returns-2 c = let f = may (c .before) in let i = c .before .before .before .before .before .before .before .slot .ensures .1 (omega arith) in simp (c .begin .ensures, i, ← permit-is (c .before .before .before), c .before .enum-told .given .1)
@@ -84,16 +66,5 @@ pub start-spec : {M : Type 1} → statement M
 start-spec =
     tie.close
     (tie.spec
-    slot-requires
-    mul-p
-    element-copy-out-p
-    header-of-requires
-    start-permit-requires
-    enum-known-permit
-    enum-told
-    add-tick
-    begin-requires
-    mul-t30
-    element-set-from-s
-    returns
-    returns-2)
+    slot-requires mul-p element-copy-out-p header-of-requires start-permit-requires enum-known-permit enum-told
+    add-tick begin-requires mul-t30 element-set-from-s returns returns-2)

@@ -1,16 +1,13 @@
+-- Each way through `top_of` is a case of `topOf`.
 use Rattle.model.specs.Calls.{topOf}
 use borrow.Author.Tests.{le-ltb, lt-ltb}
 use Rattle.store.proofs.start.top_of.Statement.{statement}
 use Rattle.store.proofs.start.top_of.Tie as tie
-use Rattle.store.proofs.start.top_of.Reads as reads
-use Rattle.store.proofs.start.top_of.Lts as lts
 
--- src/start.rt:22:1
 returns : tie.Need-returns
 unfolding topOf
 returns c = simp (lt-ltb _ _ (c .if1 .taken))
 
--- src/start.rt:22:1
 returns-2 : tie.Need-returns-2
 unfolding topOf
 returns-2 c = simp (le-ltb _ _ (c .if1 .left))

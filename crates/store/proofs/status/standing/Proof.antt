@@ -1,33 +1,26 @@
+-- Each way through `standing` is a case of `standing`.
 use Rattle.model.specs.Calls.{standing}
 use borrow.Author.Needs.{needs}
 use Rattle.store.proofs.status.standing.Statement.{statement}
 use Rattle.store.proofs.status.standing.Tie as tie
-use Rattle.store.proofs.status.standing.Reads as reads
-use Rattle.store.proofs.status.standing.Lts as lts
 
--- src/status.rt:18:23
 enum-told : tie.Need-enum-told
 enum-told c = search needs
 
--- src/status.rt:19:38
 enum-told-2 : tie.Need-enum-told-2
 enum-told-2 c = search needs
 
--- src/status.rt:20:38
 enum-told-3 : tie.Need-enum-told-3
 enum-told-3 c = search needs
 
--- src/status.rt:12:1
 returns : tie.Need-returns
 unfolding standing
 returns c = simp (c .enum-told .given .1)
 
--- src/status.rt:12:1
 returns-2 : tie.Need-returns-2
 unfolding standing
 returns-2 c = simp (c .enum-told2 .given .1)
 
--- src/status.rt:12:1
 returns-3 : tie.Need-returns-3
 unfolding standing
 returns-3 c = simp (c .enum-told3 .given .1)

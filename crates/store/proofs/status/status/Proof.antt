@@ -1,49 +1,36 @@
+-- Each way through `status` is a case of `statusOf`.
 use Rattle.model.specs.Calls.{statusBy, statusOf}
 use mathlib.Core.Path.{sym}
 use Rattle.permits.proofs.Laws.{may-tell}
 use borrow.Author.Needs.{needs}
 use Rattle.store.proofs.status.status.Statement.{statement}
 use Rattle.store.proofs.status.status.Tie as tie
-use Rattle.store.proofs.status.status.Reads as reads
-use Rattle.store.proofs.status.status.Lts as lts
-use Rattle.permits.proofs.header.header_of.Reads as header-of-reads
-use Rattle.permits.proofs.permit.status_permit.Reads as status-permit-reads
-use Rattle.store.proofs.status.standing.Reads as standing-reads
 
--- src/status.rt:27:9
 header-of-requires : tie.Need-header-of-requires
 header-of-requires c κs = search needs
 
--- src/status.rt:28:9
 status-permit-requires : tie.Need-status-permit-requires
 status-permit-requires c κs = search needs
 
--- src/status.rt:30:24
 enum-known-permit : tie.Need-enum-known-permit
 enum-known-permit c = search needs
 
--- src/status.rt:32:21
 enum-told : tie.Need-enum-told
 enum-told c = search needs
 
--- src/status.rt:33:21
 mul-p : tie.Need-mul-p
 mul-p c = search needs
 
--- src/status.rt:33:21
 element-copy-out-p : tie.Need-element-copy-out-p
 element-copy-out-p c = let a = c .before .before .before .before .args in let f = may-tell (a .t1) (a .process) (c .before .before .status-permit .ensures (c .before .before .before .before .args .t1) (sym (c .before .before .before .header-of .ensures))) (c .enum-told .given .1) in search needs
 
--- src/status.rt:34:13
 standing-requires : tie.Need-standing-requires
 standing-requires c κs = search needs
 
--- src/status.rt:24:1
 returns : tie.Need-returns
 unfolding statusOf statusBy
 returns c = simp (← c .before .before .before .status-permit .ensures (c .before .before .before .before .before .args .t1) (sym (c .before .before .before .before .header-of .ensures)), c .before .permit .given .1)
 
--- src/status.rt:24:1
 returns-2 : tie.Need-returns-2
 unfolding statusOf statusBy
 returns-2 c = simp (c .standing .ensures, ← c .before .before .before .before .status-permit .ensures (c .before .before .before .before .before .before .args .t1) (sym (c .before .before .before .before .before .header-of .ensures)), c .before .before .enum-told .given .1)
@@ -52,12 +39,5 @@ pub status-spec : {M : Type 1} → statement M
 status-spec =
     tie.close
     (tie.spec
-    header-of-requires
-    status-permit-requires
-    enum-known-permit
-    enum-told
-    mul-p
-    element-copy-out-p
-    standing-requires
-    returns
-    returns-2)
+    header-of-requires status-permit-requires enum-known-permit enum-told mul-p element-copy-out-p standing-requires
+    returns returns-2)

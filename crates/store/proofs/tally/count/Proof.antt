@@ -1,3 +1,4 @@
+-- Each way through `count` is a case of `counted`.
 use Rattle.model.proofs.Laws.{place-below}
 use native.Mathlib.Omega.{arith}
 use Rattle.model.specs.Calls.{counted}
@@ -5,44 +6,32 @@ use borrow.Author.Tests.{le-ltb, lt-ltb}
 use borrow.Author.Needs.{needs}
 use Rattle.store.proofs.tally.count.Statement.{statement}
 use Rattle.store.proofs.tally.count.Tie as tie
-use Rattle.store.proofs.tally.count.Reads as reads
-use Rattle.store.proofs.tally.count.Lts as lts
-use Rattle.store.proofs.tally.place_of.Reads as place-of-reads
 
--- src/tally.rt:30:9
 place-of-requires : tie.Need-place-of-requires
 place-of-requires c κs = search needs
 
--- src/tally.rt:31:13
 mul-n : tie.Need-mul-n
 mul-n c = omega (arith, place-below (c .before .before .args .answer), c .place-of .ensures)
 
--- src/tally.rt:31:13
 slice-read-n : tie.Need-slice-read-n
 slice-read-n c = omega (arith, place-below (c .before .before .before .args .answer), c .before .place-of .ensures)
 
--- src/tally.rt:33:20
 add-tally : tie.Need-add-tally
 add-tally c = search needs
 
--- src/tally.rt:33:9
 mul-tally : tie.Need-mul-tally
 mul-tally c = omega (arith, place-below (c .before .before .before .before .args .answer), c .before .before .place-of .ensures)
 
--- src/tally.rt:33:9
 slice-write-tally : tie.Need-slice-write-tally
 slice-write-tally c = omega (arith, place-below (c .before .before .before .before .args .answer), c .before .before .place-of .ensures)
 
--- src/tally.rt:26:1
 same-length : tie.Need-same-length
 same-length c = search needs
 
--- src/tally.rt:26:1
 returns : tie.Need-returns
 unfolding counted
 returns c = simp (← c .before .before .place-of .ensures, lt-ltb _ _ (c .if1 .taken))
 
--- src/tally.rt:26:1
 returns-2 : tie.Need-returns-2
 unfolding counted
 returns-2 c = simp (← c .before .before .place-of .ensures, le-ltb _ _ (c .if1 .left))
@@ -51,12 +40,4 @@ pub count-spec : {M : Type 1} → statement M
 count-spec =
     tie.close
     (tie.spec
-    place-of-requires
-    mul-n
-    slice-read-n
-    add-tally
-    mul-tally
-    slice-write-tally
-    same-length
-    returns
-    returns-2)
+    place-of-requires mul-n slice-read-n add-tally mul-tally slice-write-tally same-length returns returns-2)

@@ -1,0 +1,5 @@
+pub mod Bytes
+pub mod Decoding
+pub mod Examples
+pub mod Pieces
+pub mod Writing
