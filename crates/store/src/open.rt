@@ -12,7 +12,8 @@ use model::types::Permit;
 use model::types::State;
 use permits::permit::open_permit;
 
-fn clear(words: &mut [u32])
+// Zeroes all words.
+pub fn clear(words: &mut [u32])
     ensures { λ r. ⌜ now (words .exit) ≡ replicate (length (now (words .entry))) 0 ⌝ }
 {
     let mut i = 0;
