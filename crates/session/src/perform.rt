@@ -42,11 +42,7 @@ fn opens(command: Command) -> bool
 fn allowed(opened: bool, command: Command) -> bool
     ensures { λ r. ⌜ r ≡ (opened || opens command) ⌝ }
 {
-    if opened {
-        true
-    } else {
-        opens(command)
-    }
+    if opened { true } else { opens(command) }
 }
 
 fn call(

@@ -9,11 +9,13 @@ pub struct Performed {
     pub state: State,
 }
 
-// The state after a run of commands, how many bytes it read, and the position after what it printed.
+// Where a run of commands stands: the state, how many bytes were read, the position after what was printed, and whether the
+// last try played a command.
 pub struct Played {
     pub state: State,
     pub read: usize,
     pub next: usize,
+    pub more: bool,
 }
 
 // What a sheet's bytes ask for where no command was left to play.
