@@ -260,8 +260,8 @@ impl Broken {
     }
 
     fn wait_at_free(&mut self, call: &Process) -> Option<Step> {
-        let odd = self.store.state.events % 2 == 0;
-        if call.phase == Phase::Lock && odd {
+        let even = self.store.state.events.is_multiple_of(2);
+        if call.phase == Phase::Lock && even {
             self.waits()
         } else {
             None

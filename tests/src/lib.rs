@@ -6,8 +6,10 @@
 //! - [`explore`]: all interleavings of small stores; [`broken`]: stores with a known slip.
 //! - [`generate`]: random sheets and histories; [`damage`]: altered memory; all repeat from a seed.
 //! - [`text`]: sheets as readable lines.
+//! - [`compare`]: another sheet program held against [`sheet`].
 
 pub mod broken;
+pub mod compare;
 pub mod damage;
 pub mod explore;
 pub mod generate;

@@ -233,11 +233,11 @@ impl State {
 }
 
 fn lawful_node_words(words: usize) -> bool {
-    (32..=16_384).contains(&words) && words % NODE_WORDS == 0
+    (32..=16_384).contains(&words) && words.is_multiple_of(NODE_WORDS)
 }
 
 fn lawful_version_words(words: usize) -> bool {
-    (6..=12_288).contains(&words) && words % VERSION_WORDS == 0
+    (6..=12_288).contains(&words) && words.is_multiple_of(VERSION_WORDS)
 }
 
 fn lawful_processes(processes: u32) -> bool {

@@ -1,8 +1,10 @@
 //! The sheet program and the random sheets.
 
 use std::collections::BTreeSet;
+use store_tests::compare::Kinds;
+use store_tests::generate::{self, Plan};
 use store_tests::sheet::{run, Command};
-use store_tests::{generate, text};
+use store_tests::text;
 
 fn lines(text: &str) -> Vec<String> {
     run(&text::write(text).unwrap()).lines().map(String::from).collect()
@@ -77,8 +79,8 @@ fn a_longer_sheet() {
 
 #[test]
 fn commands_decode_as_encoded() {
-    for seed in 0..8 {
-        let sheet = generate::sheet(seed * 8 + 3);
+    for seed in seeds_of(Plan::ManyOpens, 2 * generate::ROUND) {
+        let sheet = generate::sheet(seed);
         let mut rest = &sheet[..];
         while let Some(Ok((command, after))) = (!rest.is_empty()).then(|| Command::decode(rest)) {
             let mut bytes = Vec::new();
@@ -89,35 +91,89 @@ fn commands_decode_as_encoded() {
     }
 }
 
-/// The random sheets reach all that a sheet can print. (10, 11 and faults need altered memory.)
+/// The random sheets reach all that a sheet can print, and print nothing that needs altered memory (10, 11, fault).
 #[test]
 fn random_sheets_reach_everything() {
-    let mut seen = BTreeSet::new();
-    let mut commands = 0;
-    for seed in 0..64 {
-        let printed = run(&generate::sheet(seed));
-        for line in printed.lines() {
-            commands += 1;
-            let words: Vec<&str> = line.split(' ').collect();
-            seen.insert(match words[0] {
-                "refused" => line.to_string(),
-                "step" => words[3].to_string(),
-                "done" => format!("{} {}", words[2], words[3]),
-                word => word.to_string(),
-            });
-        }
+    let mut kinds = Kinds::default();
+    (0..generate::ROUND).for_each(|seed| kinds.count(&run(&generate::sheet(seed))));
+    println!("{kinds}");
+    assert_eq!(kinds.missing(), [""; 0]);
+    assert_eq!(kinds.impossible(), [""; 0]);
+}
+
+#[test]
+fn shares_add_up_to_a_round() {
+    assert_eq!(generate::SHARES.iter().map(|(_, share)| share).sum::<u64>(), generate::ROUND);
+    for (plan, share) in generate::SHARES {
+        let which: Vec<u64> =
+            (0..3 * generate::ROUND).map(generate::plan).filter(|met| met.0 == plan).map(|met| met.1).collect();
+        assert_eq!(which, (0..3 * share).collect::<Vec<u64>>(), "{plan:?}");
     }
-    println!("{commands} commands");
-    let refusals = [1, 2, 3, 4, 5, 6, 7, 8, 9, 12, 13, 14, 15, 16].map(|number| format!("refused {number}"));
-    let answers = ["too-old", "readings-full", "added", "trays-full", "new"].map(|answer| format!("put {answer}"));
-    let others = ["get found", "get none", "open", "start", "on", "wait", "look", "sound"].map(String::from);
-    let due: BTreeSet<String> = refusals.into_iter().chain(answers).chain(others).collect();
-    assert_eq!(seen, due);
+}
+
+/// The seeds of a plan below `seeds`.
+fn seeds_of(plan: Plan, seeds: u64) -> impl Iterator<Item = u64> {
+    (0..seeds).filter(move |&seed| generate::plan(seed).0 == plan)
+}
+
+#[test]
+fn every_command_is_cut_at_every_length() {
+    let mut cuts = BTreeSet::new();
+    for seed in seeds_of(Plan::CutShort, 12 * generate::ROUND) {
+        let sheet = generate::sheet(seed);
+        let printed = run(&sheet);
+        assert!(printed.ends_with("refused 16\n"), "seed {seed}");
+        let mut rest = &sheet[..];
+        while let Ok((_, after)) = Command::decode(rest) {
+            rest = after;
+        }
+        cuts.insert((rest[0], rest.len(), printed.contains("open"), printed.contains("refused 1\n")));
+    }
+    // 9 cuts of an open, 15 of a put, 5 of a get, 1 of a step, 6 of a look; with no store, a store, a refused open.
+    assert_eq!(cuts.len(), (9 + 15 + 5 + 1 + 6) * 3);
+}
+
+#[test]
+fn every_unknown_byte_stands_in_every_place() {
+    let mut met = BTreeSet::new();
+    for seed in seeds_of(Plan::UnknownByte, 94 * generate::ROUND) {
+        let sheet = generate::sheet(seed);
+        assert!(run(&sheet).ends_with("refused 15\n"), "seed {seed}");
+        let mut rest = &sheet[..];
+        while let Ok((_, after)) = Command::decode(rest) {
+            rest = after;
+        }
+        met.insert((rest[0], rest.len() == sheet.len(), rest.len() == 1));
+    }
+    assert_eq!(met.len(), 250 * 3);
+}
+
+#[test]
+fn opens_meet_the_edges_of_every_operand() {
+    let seed = seeds_of(Plan::OpenEdges, generate::ROUND).next().unwrap();
+    let sheet = generate::sheet(seed);
+    let mut opens = BTreeSet::new();
+    let mut rest = &sheet[..];
+    while let Some(Ok((command, after))) = (!rest.is_empty()).then(|| Command::decode(rest)) {
+        if let Command::Open { keys, versions, processes, limit } = command {
+            opens.insert((keys, versions, processes, limit));
+        }
+        rest = after;
+    }
+    assert_eq!(opens.len(), 5 * 5 * 11 * 5);
+}
+
+#[test]
+fn some_sheets_are_far_longer_than_a_buffer() {
+    for seed in seeds_of(Plan::Long, generate::ROUND) {
+        let sheet = generate::sheet(seed);
+        assert!(sheet.len() > 6 * 65_536 && run(&sheet).lines().count() >= 200_000, "seed {seed}");
+    }
 }
 
 #[test]
 fn a_seed_gives_one_sheet() {
-    for seed in [0, 1, 2, 3, 4, 7, u64::MAX] {
+    for seed in [0, 6, 14, 19, 25, 26, 30, 35, 44, u64::MAX] {
         assert_eq!(generate::sheet(seed), generate::sheet(seed));
     }
 }
