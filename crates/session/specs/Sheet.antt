@@ -1,5 +1,5 @@
 -- Document 01, "Sheet program": commands one after another, from bytes that may not all be read yet, to a page that may fill up.
-use Prim.Native.Nat.{ℕ, zero, suc, _+_}
+use Prim.Native.Nat.{ℕ, zero, suc, _+_, _≤_}
 use mathlib.Core.Bool.{Bool, true, false}
 use mathlib.Core.List.{List}
 use lib.Dec.{leb}
@@ -27,6 +27,11 @@ playing r nodes versions tally out = record {
   read = r .read;
   page = record { bytes = out; next = r .next };
 }
+
+-- a run within its bytes and its page
+pub record Within (p : Played) (bytes out : List ℕ) : Type 0 where
+  pub read : p .read ≤ length bytes
+  pub next : p .next ≤ length out
 
 abbrev pub printed : Playing → (read : ℕ) → Done → Playing
 printed p n d = record { session = d .session; read = p .read + n; page = printOf (p .page .bytes) (p .page .next) (d .line) }

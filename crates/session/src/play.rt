@@ -5,7 +5,7 @@ ghost use mathlib.Core.Path.{_≡_};
 ghost use lib.Dec.{leb};
 ghost use lib.ListN.{length};
 ghost use Rattle.command.specs.Lines.{room};
-ghost use Rattle.session.specs.Sheet.{playing, playOne, playOf, restOf};
+ghost use Rattle.session.specs.Sheet.{playing, Within, playOne, playOf, restOf};
 use crate::perform::perform;
 use crate::types::Played;
 use crate::types::Rest;
@@ -50,6 +50,7 @@ fn play_one(
 ) -> Played
     ensures { λ r. ⌜ playing r (now (nodes .exit)) (now (versions .exit)) (now (tally .exit)) (now (out .exit)) ≡ playOne (now (bytes .entry)) (playing p (now (nodes .entry)) (now (versions .entry)) (now (tally .entry)) (now (out .entry))) ⌝ }
     ensures { λ r. ⌜ (r .more ≡ false → playing r (now (nodes .exit)) (now (versions .exit)) (now (tally .exit)) (now (out .exit)) ≡ playing p (now (nodes .entry)) (now (versions .entry)) (now (tally .entry)) (now (out .entry))) ⌝ }
+    ensures { λ r. ⌜ (Within p (now (bytes .entry)) (now (out .entry)) → Within r (now (bytes .entry)) (now (out .entry))) ⌝ }
 {
     if !has_room(out, p.next) {
         return stay(p);
@@ -86,6 +87,7 @@ pub fn play(
     out: &mut [u8],
 ) -> Played
     ensures { λ r. ⌜ playing r (now (nodes .exit)) (now (versions .exit)) (now (tally .exit)) (now (out .exit)) ≡ playOf (now (bytes .entry)) (playing p (now (nodes .entry)) (now (versions .entry)) (now (tally .entry)) (now (out .entry))) ⌝ }
+    ensures { λ r. ⌜ (Within p (now (bytes .entry)) (now (out .entry)) → Within r (now (bytes .entry)) (now (out .entry))) ⌝ }
 {
     let mut at = p;
     let mut left = bytes.len();
