@@ -3,7 +3,7 @@
 mod kinds;
 mod program;
 
-pub use kinds::{kind, Kinds};
+pub use kinds::Kinds;
 pub use program::{Feed, Program};
 
 use crate::generate;
@@ -31,16 +31,23 @@ pub struct Difference {
 #[derive(Clone, Debug, PartialEq, Eq)]
 pub struct Failure {
     pub seed: u64,
-    /// Why there is nothing to compare, or where it differs with the sheet's lines up to there.
-    pub why: Result<(Difference, String), String>,
+    pub fault: Fault,
+}
+
+#[derive(Clone, Debug, PartialEq, Eq)]
+pub enum Fault {
+    /// The program did not start or did not end well.
+    Run(String),
+    /// It printed something else; `lines` is the sheet as text up to the difference.
+    Printed { difference: Difference, lines: String },
 }
 
 impl fmt::Display for Failure {
     fn fmt(&self, f: &mut fmt::Formatter) -> fmt::Result {
         writeln!(f, "seed {} ({:?})", self.seed, generate::plan(self.seed).0)?;
-        match &self.why {
-            Err(why) => write!(f, "{why}"),
-            Ok((difference, lines)) => write!(f, "{difference}\nthe sheet up to there:\n{lines}"),
+        match &self.fault {
+            Fault::Run(why) => write!(f, "{why}"),
+            Fault::Printed { difference, lines } => write!(f, "{difference}\nthe sheet up to there:\n{lines}"),
         }
     }
 }
@@ -57,19 +64,26 @@ impl fmt::Display for Difference {
 pub fn seeds(program: &Program, seeds: impl Iterator<Item = u64>, pieces: bool) -> Result<Totals, Failure> {
     let mut totals = Totals::default();
     for seed in seeds {
-        let sheet = generate::sheet(seed);
         let feed = if pieces { Feed::Pieces(seed) } else { Feed::Whole };
-        let due = sheet::run(&sheet);
-        let printed = program.run(&sheet, feed).map_err(|why| Failure { seed, why: Err(why) })?;
-        if let Some(difference) = difference(&due, &printed) {
-            let lines = text::explain(first_commands(&sheet, difference.line));
-            return Err(Failure { seed, why: Ok((difference, lines)) });
-        }
+        let printed = one(program, &generate::sheet(seed), feed).map_err(|fault| Failure { seed, fault })?;
         totals.sheets += 1;
-        totals.commands += due.lines().count() as u64;
-        totals.bytes += due.len() as u64;
+        totals.commands += printed.lines().count() as u64;
+        totals.bytes += printed.len() as u64;
     }
     Ok(totals)
+}
+
+/// Compares one sheet; answers what both print.
+fn one(program: &Program, sheet: &[u8], feed: Feed) -> Result<String, Fault> {
+    let due = sheet::run(sheet);
+    let printed = program.run(sheet, feed).map_err(Fault::Run)?;
+    match difference(&due, &printed) {
+        None => Ok(due),
+        Some(difference) => {
+            let lines = text::explain(first_commands(sheet, difference.line));
+            Err(Fault::Printed { difference, lines })
+        }
+    }
 }
 
 /// The first differing line of what the model and the program print.

@@ -18,6 +18,14 @@ fn program() -> Option<String> {
     path
 }
 
+/// Writes the sheet to the program in the background, since a program that hangs may not read it.
+fn feed(child: &mut Child, sheet: &[u8]) {
+    let mut stdin = child.stdin.take().unwrap();
+    let sheet = sheet.to_vec();
+    // The program may end before it has read all.
+    thread::spawn(move || drop(stdin.write_all(&sheet)));
+}
+
 /// Waits for the program; fails, and ends it, where it hangs.
 fn ends(mut child: Child) {
     let end = Instant::now() + Duration::from_secs(60);
@@ -51,8 +59,7 @@ fn closed_output_ends_the_program() {
     for preparation in ["", "trap '' PIPE;"] {
         let mut child = after(preparation, &path).stdin(Stdio::piped()).stdout(Stdio::piped()).spawn().unwrap();
         drop(child.stdout.take());
-        // The program may end before it has read all.
-        let _ = child.stdin.take().unwrap().write_all(&sheet);
+        feed(&mut child, &sheet);
         ends(child);
     }
 }
@@ -62,7 +69,7 @@ fn full_device_ends_the_program() {
     let Some(path) = program() else { return };
     let full = File::options().write(true).open("/dev/full").unwrap();
     let mut child = Command::new(path).stdin(Stdio::piped()).stdout(full).spawn().unwrap();
-    let _ = child.stdin.take().unwrap().write_all(&generate::long_sheet(2, 200_000));
+    feed(&mut child, &generate::long_sheet(2, 200_000));
     ends(child);
 }
 

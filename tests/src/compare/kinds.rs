@@ -5,7 +5,7 @@ use std::fmt;
 
 /// The kind of a printed line: a refusal with its number, a step on or wait, a finished call with its answer, or the
 /// line's first word.
-pub fn kind(line: &str) -> String {
+fn kind(line: &str) -> String {
     let words: Vec<&str> = line.split(' ').collect();
     match words[0] {
         "refused" => line.to_string(),
