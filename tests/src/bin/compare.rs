@@ -1,6 +1,8 @@
 //! `compare PROGRAM`: random sheets through another sheet program and through the model, byte for byte.
 //! `compare --kinds`: how many lines of each kind these sheets print. Exit status 1 at the first difference.
 
+use std::fmt::Display;
+use std::io::{self, Write};
 use std::ops::Range;
 use std::process::ExitCode;
 use std::time::Instant;
@@ -40,11 +42,16 @@ fn main() -> ExitCode {
         return ExitCode::from(2);
     };
     let seeds = options.from..options.from + options.sheets;
-    println!("seeds {} to {}", seeds.start, seeds.end.saturating_sub(1));
+    tell(format_args!("seeds {} to {}", seeds.start, seeds.end.saturating_sub(1)));
     match options.program {
         Some(path) => compare_with(&Program::new(&path), seeds, options.pieces),
         None => tell_kinds(seeds),
     }
+}
+
+/// Prints a line. A report that is read only in part (`compare .. | head`) is no fault.
+fn tell(line: impl Display) {
+    let _ = writeln!(io::stdout(), "{line}");
 }
 
 fn compare_with(program: &Program, seeds: Range<u64>, pieces: bool) -> ExitCode {
@@ -54,11 +61,13 @@ fn compare_with(program: &Program, seeds: Range<u64>, pieces: bool) -> ExitCode 
             let feed = if pieces { " in pieces" } else { "" };
             let seconds = begun.elapsed().as_secs_f64();
             let compare::Totals { sheets, commands, bytes } = totals;
-            println!("same: {sheets} sheets{feed}, {commands} commands, {bytes} bytes compared, {seconds:.1} seconds");
+            tell(format_args!(
+                "same: {sheets} sheets{feed}, {commands} commands, {bytes} bytes compared, {seconds:.1} seconds"
+            ));
             ExitCode::SUCCESS
         }
         Err(failure) => {
-            println!("{failure}");
+            tell(failure);
             ExitCode::FAILURE
         }
     }
@@ -67,6 +76,6 @@ fn compare_with(program: &Program, seeds: Range<u64>, pieces: bool) -> ExitCode 
 fn tell_kinds(seeds: Range<u64>) -> ExitCode {
     let mut kinds = Kinds::default();
     seeds.for_each(|seed| kinds.count(&sheet::run(&generate::sheet(seed))));
-    println!("{kinds}");
+    tell(kinds);
     ExitCode::SUCCESS
 }
