@@ -9,7 +9,7 @@ use Rattle.model.specs.declared.types.Refusal.the-variants.{NotOpen}
 use Rattle.model.specs.declared.types.State.{State}
 use Rattle.model.specs.declared.types.StartResult.{StartResult}
 use Rattle.model.specs.Choice.{if_then_else_}
-use Rattle.model.specs.Layout.{nodeWords, versionWords}
+use Rattle.model.specs.Layout.{nodeWords, versionWords, limits}
 use Rattle.model.specs.Calls.{Opened, openOf, startPutOf, startGetOf, Store, Stepped, stepOf, lookOf}
 use Rattle.model.specs.Inspection.{inspectOf}
 use Rattle.command.specs.declared.types.Command.{Command}
@@ -17,6 +17,7 @@ use Rattle.command.specs.declared.types.Command.the-variants.{Open, Put, Get, S
 use Rattle.command.specs.declared.types.Line.{Line}
 use Rattle.command.specs.declared.types.Line.the-variants.{Refused}
 use Rattle.command.specs.Answers.{openLine, startLine, stepLine, lookLine, inspectLine}
+use Rattle.session.specs.declared.types.Buffers.{Buffers}
 use Rattle.session.specs.declared.types.Performed.{Performed}
 
 -- the state, both buffers and the tally
@@ -61,6 +62,14 @@ pub record Lends (n words : ℕ) (buffer : List ℕ) : Type 0 where
 -- "Open asks for tables of 16 × (K + 1) and 3 × (V + 1) words."
 abbrev pub tableWords : (words count : ℕ) → ℕ
 tableWords words count = words * (count + 1)
+
+-- buffers for any table that can be accepted, and one record more: a table that is too long can be asked for, and is refused
+abbrev pub buffers : Buffers
+buffers = record {
+  nodes = tableWords nodeWords (limits .nodes + 1);
+  versions = tableWords versionWords (limits .versions + 1);
+  tally = limits .answers;
+}
 
 -- ---- commands
 

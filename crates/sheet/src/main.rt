@@ -4,12 +4,12 @@ mod pieces;
 mod types;
 
 use crate::pieces::run;
+use session::types::Buffers;
 
 fn main() {
-    // One record more than the greatest lawful table has: a table that is too long can be asked for, and is refused.
-    let mut nodes = [0u32; 16400];
-    let mut versions = [0u32; 12291];
-    let mut tally = [0u32; 7];
+    let mut nodes = [0u32; Buffers::NODES];
+    let mut versions = [0u32; Buffers::VERSIONS];
+    let mut tally = [0u32; Buffers::TALLY];
     let mut bytes = io::large_buffer();
     let mut out = io::large_buffer();
     run(&mut bytes, &mut nodes, &mut versions, &mut tally, &mut out);
