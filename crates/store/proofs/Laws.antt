@@ -17,8 +17,8 @@ use Rattle.model.specs.State.{processAt, memoryOf, withEvent}
 use Rattle.model.specs.Phases.{Moved, moved, lawfulProcess, phaseOf, turnOf}
 use Rattle.model.specs.Calls.{stepPermit, Store, Stepped, evented, storeAfter, stepBy, stepOf, processAfter, outcomeOf, tallyAfter}
 use Rattle.model.proofs.Laws.{turn-keeps}
-use Rattle.tables.specs.Room.{memory}
-use Rattle.phases.specs.Turn.{refuses, Lent}
+use Rattle.tables.specs.Room.{Lent, memory}
+use Rattle.phases.specs.Turn.{refuses}
 use Rattle.phases.proofs.Laws.{lawful-facts}
 use Rattle.permits.proofs.Laws.{MayStep}
 use Rattle.store.specs.Advance.{Advance, advanceBy, advanceOf}

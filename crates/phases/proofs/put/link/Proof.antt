@@ -1,6 +1,7 @@
 -- Each way through `link` is a case of `linkOf`.
 use Rattle.model.specs.Phases.{addLink, linkOf}
-use Rattle.tables.proofs.Tests.{and-iff, leb-iff}
+use mathlib.Core.Bool.{and-eq-true-iff}
+use Rattle.model.proofs.Tests.{leb-iff}
 use borrow.Author.Needs.{needs}
 use Rattle.phases.proofs.put.link.Statement.{statement}
 use Rattle.phases.proofs.put.link.Tie as tie
@@ -9,7 +10,7 @@ next-at-requires : tie.Need-next-at-requires
 next-at-requires c κs = search needs
 
 set-next-requires : tie.Need-set-next-requires
-set-next-requires c κs = let f = simp (and-iff, leb-iff) at (c .before .before .before .if1 .taken) in search needs
+set-next-requires c κs = let f = simp (and-eq-true-iff, leb-iff) at (c .before .before .before .if1 .taken) in search needs
 
 set-next-requires-2 : tie.Need-set-next-requires-2
 set-next-requires-2 c κs = search needs

@@ -6,7 +6,7 @@ use mathlib.Core.Path.{_≡_, refl, _∙_, sym}
 use native.Mathlib.Omega.{arith}
 use borrow.Author.Needs.{needs}
 use Rattle.model.specs.Inspection.{chainFalls, chainAges}
-use Rattle.queries.specs.Lent.{versionsIn}
+use Rattle.tables.specs.Room.{versionsIn}
 use Rattle.queries.proofs.ChainTurns.{falls-used, falls-less, falls-behind, ages-oldest, ages-younger, ages-on}
 use Rattle.queries.proofs.chain.chain_ages.Statement.{statement}
 use Rattle.queries.proofs.chain.chain_ages.Tie as tie

@@ -5,7 +5,7 @@ use mathlib.Core.Path.{_≡_, refl, _∙_, sym}
 use native.Mathlib.Omega.{arith}
 use borrow.Author.Needs.{needs}
 use Rattle.model.specs.Inspection.{chainFalls}
-use Rattle.queries.specs.Lent.{versionsIn}
+use Rattle.tables.specs.Room.{versionsIn}
 use Rattle.queries.proofs.ChainTurns.{falls-zero, falls-unused, falls-rising, falls-oldest, falls-on}
 use Rattle.queries.proofs.chain.chain_falls.Statement.{statement}
 use Rattle.queries.proofs.chain.chain_falls.Tie as tie
