@@ -13,7 +13,6 @@ use Rattle.model.specs.declared.types.Permit.{Permit}
 use Rattle.model.specs.declared.types.Permit.the-variants.{Granted}
 use Rattle.model.specs.declared.types.Refusal.the-variants.{Corrupt, NoProcess, BadKey, Busy, NoCall, Spent}
 use Rattle.model.specs.declared.types.State.{State}
-use Rattle.model.specs.Choice.{if_then_else_}
 use Rattle.model.specs.Layout.{limits, nodeWords, versionWords, capacity}
 use Rattle.model.specs.State.{processAt, isIdle, lawfulKey, lawfulNodes, lawfulVersions, lawfulLength, lawfulState, lawfulStore}
 use Rattle.model.specs.Calls.{denyIf, noSuch, spent, openPermit, startPermit, Store, stepPermit, statusPermit}

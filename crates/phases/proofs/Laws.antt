@@ -1,7 +1,7 @@
 -- Laws of the definitions that the phases of this crate use.
 use Prim.Native.Nat.{_≤_}
 use mathlib.Core.Path.{_≡_, refl}
-use mathlib.Core.Bool.{true, false, and-eq-true-iff}
+use mathlib.Core.Bool.{true, and-eq-true-iff}
 use Rattle.model.specs.Choice.{if_then_else_}
 use Rattle.model.specs.Layout.{Memory, topLevel}
 use Rattle.model.specs.Phases.{moved, withHolder, freed, lawfulProcess}
@@ -20,6 +20,7 @@ freed-is c m (Commit d a) = refl
 freed-is c m (End a v t) = refl
 
 -- what the test of refusal 11 "at any step" tells of the cursor
-pub lawful-facts : (p : Process) (m : Memory) → lawfulProcess p m ≡ true → (p .cursor .level ≤ topLevel) × (p .cursor .pred ≤ m .counts .nodes)
+pub lawful-facts : (p : Process) (m : Memory) → lawfulProcess p m ≡ true
+    → (p .cursor .level ≤ topLevel) × (p .cursor .pred ≤ m .counts .nodes)
 unfolding lawfulProcess
 lawful-facts p m h = let f = simp (and-eq-true-iff, leb-iff) at h in (f .0 .0, f .0 .1)

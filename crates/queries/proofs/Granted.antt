@@ -15,7 +15,9 @@ use Rattle.tables.specs.Room.{Lent}
 
 module _ (s : State) (nodes versions : List ℕ) where
   lent : lawfulStore s nodes versions ≡ true → Lent nodes versions (s .counts)
-  lent h = let f = lawful-store s nodes versions h in record { node = f .node; version = f .version; fewNodes = f .few-nodes; fewVersions = f .few-versions }
+  lent h =
+      let f = lawful-store s nodes versions h in
+      record { node = f .node; version = f .version; fewNodes = f .few-nodes; fewVersions = f .few-versions }
 
   pub look-lent : (key : ℕ) → lookPermit s nodes versions key ≡ Granted → Lent nodes versions (s .counts)
   unfolding lookPermit

@@ -1,4 +1,4 @@
--- Each way through `link` is a case of `linkOf`.
+-- A straight line where the new node is in use: the predecessor's link is read for it before it is replaced.
 use Rattle.model.specs.Phases.{addLink, linkOf}
 use mathlib.Core.Bool.{and-eq-true-iff}
 use Rattle.model.proofs.Tests.{leb-iff}
@@ -23,7 +23,14 @@ same-length c = search needs
 
 returns : tie.Need-returns
 unfolding linkOf addLink
-returns c = λ vs n. simp (c .go .ensures, c .before .before .before .set-next2 .ensures, c .before .before .before .before .before .before .before .set-next .ensures, c .before .before .before .before .before .before .before .before .before .next-at .ensures, c .before .before .before .before .before .before .before .before .before .before .before .if1 .taken)
+returns c =
+    λ vs n. simp (
+      c .go .ensures,
+      c .before .before .before .set-next2 .ensures,
+      c .before .before .before .before .before .before .before .set-next .ensures,
+      c .before .before .before .before .before .before .before .before .before .next-at .ensures,
+      c .before .before .before .before .before .before .before .before .before .before .before .if1 .taken,
+    )
 
 returns-2 : tie.Need-returns-2
 unfolding linkOf addLink

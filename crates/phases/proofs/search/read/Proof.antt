@@ -1,4 +1,4 @@
--- Each way through `read` is a case of `readOf`.
+-- A newest version in use is shown, any other refused.
 use Rattle.model.specs.Phases.{readOf}
 use mathlib.Core.Bool.{and-eq-true-iff}
 use Rattle.model.proofs.Tests.{leb-iff}

@@ -19,7 +19,13 @@ version-back-requires c κs = let f = simp (and-eq-true-iff, leb-iff) at (c .if2
 
 returns-2 : tie.Need-returns-2
 unfolding lookNode
-returns-2 c = simp (ne-eqb _ _ (c .before .before .before .before .if1 .left), ← c .before .before .before .newest-at .ensures, c .before .if2 .taken, c .version-back .ensures)
+returns-2 c =
+    simp (
+      ne-eqb _ _ (c .before .before .before .before .if1 .left),
+      ← c .before .before .before .newest-at .ensures,
+      c .before .if2 .taken,
+      c .version-back .ensures,
+    )
 
 returns-3 : tie.Need-returns-3
 unfolding lookNode
