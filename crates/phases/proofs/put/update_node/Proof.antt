@@ -2,6 +2,7 @@
 use Rattle.model.specs.Phases.{updateNode}
 use Rattle.tables.proofs.Tests.{version-room}
 use mathlib.Core.Path.{sym, _∙_}
+use native.Mathlib.Omega.{arith}
 use borrow.Author.Tests.{le-ltb, lt-ltb}
 use borrow.Author.Needs.{needs}
 use Rattle.phases.proofs.put.update_node.Statement.{statement}
@@ -18,7 +19,11 @@ same-length c = search needs
 
 returns : tie.Need-returns
 unfolding updateNode
-returns c = simp (c .keep .ensures, lt-ltb _ _ (c .before .if1 .taken), ← c .before .before .before .timestamp-at .ensures)
+returns c =
+    let t = c .before .before .before in
+    let own = t .before .before .before .before .args .call .timestamp in
+    let lt = lt-ltb own (t .timestamp-at .result) (omega arith) in
+    simp (c .keep .ensures, lt, ← t .timestamp-at .ensures)
 
 versions-full-requires : tie.Need-versions-full-requires
 versions-full-requires c κs = search needs
@@ -32,13 +37,10 @@ same-length-2 c = search needs
 returns-2 : tie.Need-returns-2
 unfolding updateNode
 returns-2 c =
-    simp (
-      c .keep2 .ensures,
-      c .before .if2 .taken,
-      ← c .before .before .versions-full .ensures,
-      le-ltb _ _ (c .before .before .before .before .if1 .left),
-      ← c .before .before .before .before .before .before .timestamp-at .ensures,
-    )
+    let t = c .before .before .before .before .before .before in
+    let own = t .before .before .before .before .args .call .timestamp in
+    let ge = le-ltb own (t .timestamp-at .result) (omega arith) in
+    simp (c .keep2 .ensures, c .before .if2 .taken, ← c .before .before .versions-full .ensures, ge, ← t .timestamp-at .ensures)
 
 add-version-requires : tie.Need-add-version-requires
 add-version-requires c κs =
@@ -61,13 +63,17 @@ same-length-4 c = search needs
 returns-3 : tie.Need-returns-3
 unfolding updateNode
 returns-3 c =
+    let p = c .before .before .before .before .before .before .before .before .before .before .before in
+    let t = p .before .before in
+    let own = t .before .before .before .before .args .call .timestamp in
+    let ge = le-ltb own (t .timestamp-at .result) (omega (arith, p .if1 .left)) in
     simp (
       c .keep3 .ensures,
       c .before .before .before .before .before .add-version .ensures,
       c .before .before .before .before .before .before .before .before .if2 .left,
       ← c .before .before .before .before .before .before .before .before .before .versions-full .ensures,
-      le-ltb _ _ (c .before .before .before .before .before .before .before .before .before .before .before .if1 .left),
-      ← c .before .before .before .before .before .before .before .before .before .before .before .before .before .timestamp-at .ensures,
+      ge,
+      ← t .timestamp-at .ensures,
     )
 
 pub update-node-spec : {M : Type 1} → statement M
