@@ -63,15 +63,10 @@ returns-3 c =
 add-node-requires : tie.Need-add-node-requires
 add-node-requires c κs =
     let a = c .before .before .before .before .before .before .before .before .before .before .before .before .args in
-    let r =
-    version-room (a .versions .now) (a .counts .versions)
-    (sym (c .before .before .before .before .before .versions-full .ensures) ∙ c .before .before .before .before .if2 .left)
-    in
-    let q =
-    node-room (a .nodes .now) (a .counts .nodes)
-    (sym (c .before .before .before .before .before .before .before .before .nodes-full .ensures)
-    ∙ c .before .before .before .before .before .before .before .if1 .left)
-    in
+    let v = sym (c .before .before .before .before .before .versions-full .ensures) ∙ c .before .before .before .before .if2 .left in
+    let n = sym (c .before .before .before .before .before .before .before .before .nodes-full .ensures) ∙ c .before .before .before .before .before .before .before .if1 .left in
+    let r = version-room (a .versions .now) (a .counts .versions) v in
+    let q = node-room (a .nodes .now) (a .counts .nodes) n in
     search needs
 
 add-commit : tie.Need-add-commit

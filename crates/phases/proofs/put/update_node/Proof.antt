@@ -45,10 +45,8 @@ returns-2 c =
 add-version-requires : tie.Need-add-version-requires
 add-version-requires c κs =
     let a = c .before .before .before .before .before .before .before .before .before .before .before .args in
-    let r =
-    version-room (a .versions .now) (a .counts .versions)
-    (sym (c .before .before .before .versions-full .ensures) ∙ c .before .before .if2 .left)
-    in
+    let v = sym (c .before .before .before .versions-full .ensures) ∙ c .before .before .if2 .left in
+    let r = version-room (a .versions .now) (a .counts .versions) v in
     search needs
 
 keep-requires-3 : tie.Need-keep-requires-3

@@ -24,11 +24,8 @@ mul-p c = search needs
 element-copy-out-p : tie.Need-element-copy-out-p
 element-copy-out-p c =
     let a = c .before .before .before .before .args in
-    let f =
-    may-tell (a .t1) (a .process)
-    (c .before .before .status-permit .ensures (c .before .before .before .before .args .t1)
-    (sym (c .before .before .before .header-of .ensures))) (c .enum-told .given .1)
-    in
+    let p = c .before .before .status-permit .ensures (a .t1) (sym (c .before .before .before .header-of .ensures)) in
+    let f = may-tell (a .t1) (a .process) p (c .enum-told .given .1) in
     search needs
 
 standing-requires : tie.Need-standing-requires
