@@ -157,7 +157,7 @@ open-accepted nodes versions processes limit a b c d = rw (a, b, c, d)
 -- ---- starts
 
 -- what is granted has met no refusal
-granted-iff : (b : Bool) (r : Refusal) (rest : Permit)
+pub granted-iff : (b : Bool) (r : Refusal) (rest : Permit)
     → (denyIf b r rest ≡ Granted) ↔ ((b ≡ false) × (rest ≡ Granted))
 granted-iff false r rest = (λ e. (refl, e), λ f. f .1)
 granted-iff true r rest = (λ e. (cc, cc), λ f. cc (f .0))

@@ -1,9 +1,10 @@
 -- Facts from tests: how a fact about a choice is proved, by a fact of each branch.
 use Prim.Native.Nat.{ℕ, _≤_, _<_}
 use mathlib.Core.Bool.{Bool, true, false, not, _&&_}
-use mathlib.Core.Logic.{_≢_}
+use mathlib.Core.Logic.{_≢_, _↔_}
 use mathlib.Core.Path.{_≡_, refl, sym, subst}
 use lib.Dec.{T, eqb, leb, ltb, eqb→eq, eqb-refl, leb→le, nleb→lt}
+use borrow.Author.Tests.{leb-true, le-leb, eqb-true, eq-eqb}
 use Rattle.model.specs.Choice.{if_then_else_}
 
 pub if-by {ℓ} : {A : Type ℓ} (P : A → Type 0) (b : Bool) {x y : A} → (T b → P x) → (T (not b) → P y) → P (if b then x else y)
@@ -53,6 +54,13 @@ eq→eqb m n e = subst (λ k. T (eqb m k)) e (eqb-refl m)
 
 pub ne→neqb : (m n : ℕ) → m ≢ n → T (not (eqb m n))
 ne→neqb m n ne = by-test (eqb m n) (λ t. absurd (ne (eqb→eq m n t))) (λ t. t)
+
+-- what a test tells, for `simp`
+pub leb-iff : (a b : ℕ) → (leb a b ≡ true) ↔ (a ≤ b)
+leb-iff a b = (leb-true a b, le-leb a b)
+
+pub eqb-iff : (a b : ℕ) → (eqb a b ≡ true) ↔ (a ≡ b)
+eqb-iff a b = (eqb-true a b, eq-eqb a b)
 
 -- two numbers are equal or not
 pub by-eq : {P : Type 0} (m n : ℕ) → (m ≡ n → P) → (m ≢ n → P) → P

@@ -2,24 +2,23 @@
 use Prim.Native.Nat.{ℕ, zero, suc, _+_, _-_, _*_, _≤_, _<_}
 use mathlib.Core.Bool.{Bool, true, false, not, _&&_, _||_, and-eq-true-iff}
 use mathlib.Core.List.{List}
-use mathlib.Core.Logic.{_↔_}
 use mathlib.Core.Path.{_≡_, refl, sym, _∙_}
 use native.Mathlib.Numerals.{unary-clauses}
 use native.Mathlib.Omega.{arith}
-use borrow.Author.Tests.{leb-true, leb-false, ltb-true, ltb-false, eqb-true, eqb-false, le-leb, lt-leb, eq-eqb, not-false}
+use borrow.Author.Tests.{leb-false, ltb-true, ltb-false, eqb-true, eqb-false, le-leb, lt-leb, not-false}
 use lib.Dec.{leb, ltb, eqb}
 use lib.ListN.{length}
 use Rattle.model.specs.declared.types.Kind.{Kind}
 use Rattle.model.specs.declared.types.Permit.{Permit}
 use Rattle.model.specs.declared.types.Permit.the-variants.{Granted}
-use Rattle.model.specs.declared.types.Refusal.{Refusal}
 use Rattle.model.specs.declared.types.Refusal.the-variants.{Corrupt, NoProcess, BadKey, Busy, NoCall, Spent}
 use Rattle.model.specs.declared.types.State.{State}
-use Rattle.model.specs.Choice.{if_then_else_}
 use Rattle.model.specs.Layout.{limits, nodeWords, versionWords, capacity}
 use Rattle.model.specs.State.{processAt, isIdle, lawfulKey, lawfulNodes, lawfulVersions, lawfulLength, lawfulState, lawfulStore}
 use Rattle.model.specs.Calls.{denyIf, noSuch, spent, openPermit, startPermit, Store, stepPermit, statusPermit}
 use Rattle.model.specs.Inspection.{idleBelow}
+use Rattle.model.proofs.Laws.{granted-iff}
+use Rattle.model.proofs.Tests.{leb-iff, eqb-iff}
 
 -- n - 1 is 0 for n = 0 too, so nothing in use is always within it
 pub in-use : (used all : ℕ) → eqb used 0 || ltb used all ≡ leb used (all - 1)
@@ -38,12 +37,6 @@ idle-more s zero h = absurd (omega arith)
 idle-more s (suc n) h = simp unary-clauses
 
 -- ---- lawful
-
-leb-iff : (a b : ℕ) → (leb a b ≡ true) ↔ (a ≤ b)
-leb-iff a b = (leb-true a b, le-leb a b)
-
-eqb-iff : (a b : ℕ) → (eqb a b ≡ true) ↔ (a ≡ b)
-eqb-iff a b = (eqb-true a b, eq-eqb a b)
 
 pub lawful-processes : (s : State) → lawfulState s ≡ true → s .processes ≤ limits .processes
 unfolding lawfulState
@@ -73,12 +66,6 @@ lawful-store s nodes versions h =
     }
 
 -- ---- granted
-
--- what is granted has met no refusal
-granted-iff : (b : Bool) (r : Refusal) (rest : Permit)
-    → (denyIf b r rest ≡ Granted) ↔ ((b ≡ false) × (rest ≡ Granted))
-granted-iff false r rest = (λ e. (refl, e), λ f. f .1)
-granted-iff true r rest = (λ e. (cc, cc), λ f. cc (f .0))
 
 -- what an accepted opening may go by
 pub record MayOpen (nodes versions : List ℕ) : Type 0 where

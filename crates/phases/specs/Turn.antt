@@ -1,10 +1,10 @@
--- What the phases ask of their arguments, and how their contracts name the memory.
+-- What the phases ask of their arguments, and how their contracts name what a step leaves.
 use Prim.Native.Nat.{ℕ, _+_, _*_, _≤_, suc}
 use mathlib.Core.Bool.{Bool, true, false}
 use mathlib.Core.List.{List}
 use lib.ListN.{length}
-use Rattle.phases.specs.Types.{Call, Cursor, Effect, Process, Counts, Move, Refuse, Wait, Go, Note, Commit, End}
-use Rattle.model.specs.Layout.{Memory, nodeWords, versionWords, topLevel, limits}
+use Rattle.phases.specs.Types.{Call, Cursor, Effect, Process, Move, Refuse, Wait, Go, Note, Commit, End}
+use Rattle.model.specs.Layout.{nodeWords, versionWords, topLevel, limits}
 use Rattle.model.specs.Phases.{Moved}
 use Rattle.tables.specs.Room.{NodeRoom, VersionRoom, memory}
 use Rattle.phases.specs.declared.types.Turned.{Turned}
@@ -15,13 +15,6 @@ pub record Ready (nodes : List ℕ) (used : ℕ) (c : Cursor) : Type 0 where
   pub pred : c .pred ≤ used
   pub level : c .level ≤ topLevel
 
--- both tables have the nodes and versions in use, and lawful lengths
-pub record Lent (nodes versions : List ℕ) (counts : Counts) : Type 0 where
-  pub node : NodeRoom nodes (counts .nodes)
-  pub version : VersionRoom versions (counts .versions)
-  pub fewNodes : length nodes ≤ nodeWords * suc (limits .nodes)
-  pub fewVersions : length versions ≤ versionWords * suc (limits .versions)
-
 -- there is room for one node, or one version, after those in use
 pub record NodeSpare (nodes : List ℕ) (used : ℕ) : Type 0 where
   pub room : NodeRoom nodes (used + 1)
@@ -30,10 +23,6 @@ pub record NodeSpare (nodes : List ℕ) (used : ℕ) : Type 0 where
 pub record VersionSpare (versions : List ℕ) (used : ℕ) : Type 0 where
   pub room : VersionRoom versions (used + 1)
   pub few : length versions ≤ versionWords * suc (limits .versions)
-
--- A phase that is lent the node table alone is told the last node in use; the rest of the memory is any.
-abbrev pub nodesIn : (nodes : List ℕ) (used : ℕ) (versions : List ℕ) (n : ℕ) → Memory
-nodesIn nodes used versions n = memory nodes versions (record { nodes = used; versions = n })
 
 -- the move and the memory that a step leaves
 abbrev pub leaves : Turned → (nodes versions : List ℕ) → Moved

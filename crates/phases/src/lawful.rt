@@ -4,13 +4,15 @@ ghost use mathlib.Core.List.{List};
 ghost use Prim.Native.Nat.{ℕ};
 ghost use Rattle.model.specs.declared.types.Kind.the-variants.{Put, Get};
 ghost use Rattle.model.specs.Phases.{fromPut, lawfulAt, lawfulProcess};
-ghost use Rattle.phases.specs.Turn.{nodesIn, process};
+ghost use Rattle.tables.specs.Room.{nodesIn};
+ghost use Rattle.phases.specs.Turn.{process};
 use model::types::Answer;
 use model::types::Call;
 use model::types::Cursor;
 use model::types::Effect;
 use model::types::Kind;
 use model::types::Phase;
+use model::types::State;
 
 // The answers that a put gives.
 fn from_put(answer: Answer) -> bool
@@ -81,5 +83,5 @@ pub fn lawful(call: Call, c: Cursor, e: Effect, used: u32) -> bool
     let kind = call.kind;
     let phase = c.phase;
     let suited = lawful_at(kind, phase, e);
-    (c.level <= 5) & (c.pred <= used) & suited
+    (c.level <= State::TOP) & (c.pred <= used) & suited
 }

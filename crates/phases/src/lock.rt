@@ -5,9 +5,10 @@ ghost use Prim.Native.Nat.{ℕ};
 ghost use Rattle.phases.specs.Types.{Counts};
 ghost use Rattle.model.specs.Numbers.{noVersion, versionWith};
 ghost use Rattle.model.specs.Phases.{moved, lockOf, checked, checkOf, isNew, rise, released, releaseOf};
-ghost use Rattle.tables.specs.Room.{LevelRoom, memory};
-ghost use Rattle.phases.specs.Turn.{Ready, nodesIn, refuses};
+ghost use Rattle.tables.specs.Room.{LevelRoom, memory, nodesIn};
+ghost use Rattle.phases.specs.Turn.{Ready};
 use crate::moves::go;
+use crate::moves::is_refusal;
 use model::types::Ahead;
 use model::types::Answer;
 use model::types::Call;
@@ -15,6 +16,7 @@ use model::types::Cursor;
 use model::types::Effect;
 use model::types::Move;
 use model::types::Phase;
+use model::types::State;
 use model::types::Version;
 use tables::nodes::ahead;
 use tables::nodes::lock_at;
@@ -99,7 +101,7 @@ fn version_with(answer: Answer, own: Version) -> Version
 fn rise(call: Call, c: Cursor, used: u32, preds: [u32; 6], otherwise: Move) -> Move
     ensures { λ r. ⌜ ((nodes versions : List ℕ) (n : ℕ) → r ≡ rise call c preds (nodesIn nodes used versions n) otherwise) ⌝ }
 {
-    if 5 < call.top {
+    if State::TOP < call.top {
         return Move::Refuse;
     }
     if call.top <= c.level {
@@ -129,19 +131,6 @@ fn released(call: Call, c: Cursor, e: Effect, used: u32, preds: [u32; 6]) -> Mov
         rise(call, c, used, preds, end)
     } else {
         end
-    }
-}
-
-fn is_refusal(m: Move) -> bool
-    ensures { λ r. ⌜ r ≡ refuses m ⌝ }
-{
-    match m {
-        Move::Refuse => true,
-        Move::Wait => false,
-        Move::Go(_) => false,
-        Move::Note(_) => false,
-        Move::Commit(_, _) => false,
-        Move::End(_, _, _) => false,
     }
 }
 

@@ -1,6 +1,7 @@
-// The moves that carry a cursor.
+// The moves that carry a cursor, and the test for the one that refuses.
 ghost use mathlib.Core.Path.{_≡_};
 ghost use Rattle.model.specs.Phases.{at, committed};
+ghost use Rattle.phases.specs.Turn.{refuses};
 ghost use Rattle.phases.specs.Types.{Go, Note};
 use model::types::Answer;
 use model::types::Cursor;
@@ -44,4 +45,17 @@ pub fn commit(c: Cursor, made: u32, answer: Answer) -> Move
         },
         answer,
     )
+}
+
+pub fn is_refusal(m: Move) -> bool
+    ensures { λ r. ⌜ r ≡ refuses m ⌝ }
+{
+    match m {
+        Move::Refuse => true,
+        Move::Wait => false,
+        Move::Go(_) => false,
+        Move::Note(_) => false,
+        Move::Commit(_, _) => false,
+        Move::End(_, _, _) => false,
+    }
 }

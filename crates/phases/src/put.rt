@@ -4,8 +4,8 @@ ghost use mathlib.Core.List.{List};
 ghost use Prim.Native.Nat.{ℕ, _≤_};
 ghost use Rattle.model.specs.Layout.{next, withNext, withNode};
 ghost use Rattle.model.specs.Phases.{moved, committed, addVersion, updateNode, updateOf, addNode, makeOf, linkOf};
-ghost use Rattle.tables.specs.Room.{NodeRoom, memory};
-ghost use Rattle.phases.specs.Turn.{Ready, Lent, NodeSpare, VersionSpare, nodesIn, leaves};
+ghost use Rattle.tables.specs.Room.{NodeRoom, Lent, memory, nodesIn};
+ghost use Rattle.phases.specs.Turn.{Ready, NodeSpare, VersionSpare, leaves};
 use crate::moves::commit;
 use crate::moves::go;
 use crate::types::Turned;
@@ -15,6 +15,7 @@ use model::types::Counts;
 use model::types::Cursor;
 use model::types::Move;
 use model::types::Phase;
+use model::types::State;
 use tables::nodes::newest_at;
 use tables::nodes::next_at;
 use tables::nodes::nodes_full;
@@ -162,7 +163,7 @@ pub fn make(
     if versions_full(versions, counts.versions) {
         return keep(c, Answer::VersionsFull, counts);
     }
-    if 5 < call.top {
+    if State::TOP < call.top {
         return Turned {
             mv: Move::Refuse,
             counts,

@@ -1,8 +1,8 @@
 // The core of a step: one step of one call.
 ghost use mathlib.Core.Path.{_≡_};
 ghost use Rattle.model.specs.Phases.{phaseOf, turnOf};
-ghost use Rattle.tables.specs.Room.{memory};
-ghost use Rattle.phases.specs.Turn.{Ready, Lent, leaves, process};
+ghost use Rattle.tables.specs.Room.{Lent, memory};
+ghost use Rattle.phases.specs.Turn.{Ready, leaves, process};
 use crate::lawful::lawful;
 use crate::lock::acquire;
 use crate::lock::check;

@@ -109,7 +109,8 @@ module _ (m : Memory) (l seen x : ℕ) where
 
         pub level-goes : d ≡ false → Onward y
         level-goes g =
-            let a = or-false (ltb (m .counts .nodes) y || leb (key (m .nodes) y) (key (m .nodes) x)) (ltb (top (m .nodes) y) l) (sym ed ∙ g) in
+            let out = ltb (m .counts .nodes) y || leb (key (m .nodes) y) (key (m .nodes) x) in
+            let a = or-false out (ltb (top (m .nodes) y) l) (sym ed ∙ g) in
             let b = or-false (ltb (m .counts .nodes) y) (leb (key (m .nodes) y) (key (m .nodes) x)) (a .0) in
             let used = ltb-false (m .counts .nodes) y (b .0) in
             let nears = fewer-ahead m l x y nz (used, λ _. ltb-false _ _ (a .1)) (leb-false _ _ (b .1)) in

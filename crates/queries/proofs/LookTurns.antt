@@ -30,7 +30,8 @@ pub find-within : (t : List ℕ) (wanted left x : ℕ) → 1 ≤ x → findFrom 
 unfolding findFrom
 find-within t wanted zero x h = omega arith
 find-within t wanted (suc left) x h =
-    if-by (λ r. r < x + suc left) (eqb (key t x) wanted) (λ _. omega arith) (λ _. omega (arith, find-within t wanted left (x + 1) (omega arith)))
+    if-by (λ r. r < x + suc left) (eqb (key t x) wanted) (λ _. omega arith)
+    (λ _. omega (arith, find-within t wanted left (x + 1) (omega arith)))
 
 module _ (t : List ℕ) (left i p : ℕ) (h : 0 < left) (e : p ≡ prev t i) where
   pub back-damaged : i ≤ p → backFrom t left i ≡ Looking.Refused Damaged

@@ -1,8 +1,7 @@
 // Inspection: every level along the links, to the first fault.
 ghost use mathlib.Core.Path.{_≡_};
 ghost use Rattle.model.specs.Inspection.{inspection, inspectOf};
-ghost use Rattle.tables.specs.Room.{memory};
-ghost use Rattle.queries.specs.Lent.{Lent};
+ghost use Rattle.tables.specs.Room.{memory, Lent};
 use crate::faults::link_fault;
 use crate::faults::node_fault;
 use crate::faults::reaching;

@@ -1,8 +1,7 @@
 // A look at a version of a key.
 ghost use mathlib.Core.Path.{_≡_};
 ghost use Rattle.model.specs.Calls.{findFrom, backFrom, lookNode, lookOf};
-ghost use Rattle.tables.specs.Room.{NodeRoom, VersionRoom, memory};
-ghost use Rattle.queries.specs.Lent.{Lent};
+ghost use Rattle.tables.specs.Room.{NodeRoom, VersionRoom, memory, Lent};
 use model::types::Counts;
 use model::types::Looking;
 use model::types::Permit;

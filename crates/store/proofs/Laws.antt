@@ -17,15 +17,15 @@ use Rattle.model.specs.State.{processAt, memoryOf, withEvent}
 use Rattle.model.specs.Phases.{Moved, moved, lawfulProcess, phaseOf, turnOf}
 use Rattle.model.specs.Calls.{stepPermit, Store, Stepped, evented, storeAfter, stepBy, stepOf, processAfter, outcomeOf, tallyAfter}
 use Rattle.model.proofs.Laws.{turn-keeps}
-use Rattle.tables.specs.Room.{memory}
-use Rattle.phases.specs.Turn.{refuses, Lent}
+use Rattle.tables.specs.Room.{Lent, memory}
+use Rattle.phases.specs.Turn.{refuses}
 use Rattle.phases.proofs.Laws.{lawful-facts}
 use Rattle.permits.proofs.Laws.{MayStep}
 use Rattle.store.specs.Advance.{Advance, advanceBy, advanceOf}
 
 -- ---- advance
 
-pub refused-is : (v : Move) → refuses v ≡ true → v ≡ Refuse
+refused-is : (v : Move) → refuses v ≡ true → v ≡ Refuse
 refused-is Refuse e = refl
 refused-is Wait e = cc
 refused-is (Go c) e = cc
@@ -35,7 +35,13 @@ refused-is (End a r t) e = cc
 
 -- a refusal leaves the process and the tally
 pub refused-advance : (tick : ℕ) (p : Process) (tally : List ℕ) (v : Move) (m : Memory) → refuses v ≡ true
-    → record { refused = true; outcome = Stepping.Refused Damaged; process = p; memory = m; tally = tally } ≡ advanceBy tick p tally (moved m v)
+    → record {
+      refused = true;
+      outcome = Stepping.Refused Damaged;
+      process = p;
+      memory = m;
+      tally = tally;
+    } ≡ advanceBy tick p tally (moved m v)
 unfolding advanceBy processAfter outcomeOf tallyAfter
 refused-advance tick p tally v m e = simp (refused-is v e)
 

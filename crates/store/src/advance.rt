@@ -2,10 +2,8 @@
 ghost use mathlib.Core.Path.{_≡_};
 ghost use lib.ListN.{length};
 ghost use Rattle.model.specs.Layout.{limits};
-ghost use Rattle.tables.specs.Room.{memory};
-ghost use Rattle.phases.specs.Turn.{Lent};
+ghost use Rattle.tables.specs.Room.{Lent, memory};
 ghost use Rattle.store.specs.Advance.{advanceOf, advanced};
-use crate::after::is_refusal;
 use crate::after::outcome_of;
 use crate::after::process_after;
 use crate::tally::count_end;
@@ -14,6 +12,7 @@ use model::types::Counts;
 use model::types::Process;
 use model::types::Refusal;
 use model::types::Stepping;
+use phases::moves::is_refusal;
 use phases::turn::turn;
 
 // `holder` is the process's number plus 1, `tick` that of this event.

@@ -4,7 +4,6 @@ ghost use Prim.Native.Nat.{_≤_};
 ghost use lib.ListN.{set};
 ghost use Rattle.model.specs.Layout.{topLevel};
 ghost use Rattle.model.specs.Calls.{processAfter, outcomeOf};
-ghost use Rattle.phases.specs.Turn.{refuses};
 use model::types::Call;
 use model::types::Effect;
 use model::types::Finish;
@@ -12,19 +11,6 @@ use model::types::Move;
 use model::types::Process;
 use model::types::Refusal;
 use model::types::Stepping;
-
-pub fn is_refusal(mv: Move) -> bool
-    ensures { λ r. ⌜ r ≡ refuses mv ⌝ }
-{
-    match mv {
-        Move::Refuse => true,
-        Move::Wait => false,
-        Move::Go(_) => false,
-        Move::Note(_) => false,
-        Move::Commit(_, _) => false,
-        Move::End(_, _, _) => false,
-    }
-}
 
 // The process with its predecessor remembered at its level.
 fn remember(p: Process) -> [u32; 6]

@@ -1,7 +1,6 @@
 // Starts of a put and of a get.
 ghost use mathlib.Core.Path.{_≡_};
-ghost use Prim.Native.Nat.{ℕ, _+_, _<_};
-ghost use Rattle.model.specs.Layout.{limits};
+ghost use Prim.Native.Nat.{_+_};
 ghost use Rattle.model.specs.Calls.{topOf, begun, startPermit, startBy, startPutOf, startGetOf};
 use crate::slot::slot;
 use model::types::Answer;

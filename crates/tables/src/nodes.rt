@@ -6,7 +6,7 @@ ghost use lib.Dec.{leb};
 ghost use lib.ListN.{length};
 ghost use Rattle.model.specs.Layout.{nodeWords, capacity, word, withWord, key, newest, top, next, lock, withNewest, withNext, withLock, nodeRecord, withNode};
 ghost use Rattle.model.specs.Phases.{ahead};
-ghost use Rattle.tables.specs.Room.{NodeRoom, LevelRoom, memory};
+ghost use Rattle.tables.specs.Room.{NodeRoom, LevelRoom, nodesIn};
 use model::types::Ahead;
 
 // Word `field` of a node.
@@ -133,7 +133,7 @@ pub fn nodes_full(nodes: &[u32], used: u32) -> bool
 pub fn ahead(nodes: &[u32], used: u32, level: u32, pred: u32, key: u32) -> Ahead
     requires { ⌜ LevelRoom (now nodes) level pred ⌝ }
     requires { ⌜ NodeRoom (now nodes) used ⌝ }
-    ensures { λ r. ⌜ ((versions : List ℕ) (n : ℕ) → r ≡ ahead (memory (now (nodes .entry)) versions (record { nodes = used; versions = n })) level pred key) ⌝ }
+    ensures { λ r. ⌜ ((versions : List ℕ) (n : ℕ) → r ≡ ahead (nodesIn (now (nodes .entry)) used versions n) level pred key) ⌝ }
 {
     let y = next_at(nodes, level, pred);
     if y == 0 {

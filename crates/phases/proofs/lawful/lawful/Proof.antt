@@ -1,4 +1,4 @@
--- Each arm of the match gives the definition's case.
+-- Level and node, then what suits kind and phase: the definition's three tests.
 use Rattle.model.specs.Phases.{lawfulProcess}
 use borrow.Author.Needs.{needs}
 use Rattle.phases.proofs.lawful.lawful.Statement.{statement}

@@ -40,7 +40,7 @@ returns c = simp (c .enum-told .given .1, c .before .before .before .from-put .e
 
 returns-2 : tie.Need-returns-2
 unfolding lawfulAt
-returns-2 c = simp (c .enum-told2 .given .1, c .before .before .before .from-put .ensures)
+returns-2 c = simp (c .enum-told2 .given .1)
 
 returns-3 : tie.Need-returns-3
 unfolding lawfulAt

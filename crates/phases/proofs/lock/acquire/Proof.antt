@@ -1,4 +1,4 @@
--- Each way through `acquire` is a case of `lockOf`.
+-- A free lock is taken, a held one waited for.
 use Rattle.model.specs.Phases.{lockOf}
 use borrow.Author.Tests.{eq-eqb, ne-eqb}
 use borrow.Author.Needs.{needs}
@@ -19,7 +19,13 @@ same-length c = search needs
 
 returns : tie.Need-returns
 unfolding lockOf
-returns c = λ vs cs. simp (c .go .ensures, c .before .before .before .set-lock .ensures, eq-eqb _ _ (c .before .before .before .before .before .if1 .taken), ← c .before .before .before .before .before .before .lock-at .ensures)
+returns c =
+    λ vs cs. simp (
+      c .go .ensures,
+      c .before .before .before .set-lock .ensures,
+      eq-eqb _ _ (c .before .before .before .before .before .if1 .taken),
+      ← c .before .before .before .before .before .before .lock-at .ensures,
+    )
 
 same-length-2 : tie.Need-same-length-2
 same-length-2 c = search needs

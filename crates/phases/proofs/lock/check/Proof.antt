@@ -1,4 +1,4 @@
--- Each way through `check` is a case of `checkOf`.
+-- Where the link leads, read again under the lock, decides; each answer of `ahead` is a case of `checkOf`.
 use Rattle.model.specs.Phases.{checkBy, checkOf}
 use borrow.Author.Needs.{needs}
 use Rattle.phases.proofs.lock.check.Statement.{statement}
@@ -43,7 +43,13 @@ same-length-2 c = search needs
 
 returns-2 : tie.Need-returns-2
 unfolding checkOf checkBy
-returns-2 c = λ vs n. simp (c .go .ensures, c .before .before .before .set-lock .ensures, c .before .before .before .before .before .before .a .given .1, ← c .before .before .before .before .before .before .before .before .ahead .ensures)
+returns-2 c =
+    λ vs n. simp (
+      c .go .ensures,
+      c .before .before .before .set-lock .ensures,
+      c .before .before .before .before .before .before .a .given .1,
+      ← c .before .before .before .before .before .before .before .before .ahead .ensures,
+    )
 
 same-length-3 : tie.Need-same-length-3
 same-length-3 c = search needs

@@ -23,7 +23,14 @@ same-length c = search needs
 
 returns-2 : tie.Need-returns-2
 unfolding releaseOf
-returns-2 c = λ vs n. simp (freed-is, c .before .before .set-lock .ensures, ← c .before .before .before .before .before .before .released .ensures, ← c .before .before .before .before .before .is-refusal .ensures, c .before .before .before .before .if1 .left)
+returns-2 c =
+    λ vs n. simp (
+      freed-is,
+      c .before .before .set-lock .ensures,
+      ← c .before .before .before .before .before .before .released .ensures,
+      ← c .before .before .before .before .before .is-refusal .ensures,
+      c .before .before .before .before .if1 .left,
+    )
 
 pub release-spec : {M : Type 1} → statement M
 release-spec =

@@ -1,4 +1,4 @@
--- Each way through `released` is a case of `released`.
+-- A put that was new may rise; any other ends with its own version.
 use Rattle.model.specs.Phases.{released}
 use borrow.Author.Needs.{needs}
 use Rattle.phases.proofs.lock.released.Statement.{statement}
@@ -15,7 +15,13 @@ rise-requires c κs = search needs
 
 returns : tie.Need-returns
 unfolding released
-returns c = λ ns vs n. simp (c .rise .ensures ns vs n, c .before .if1 .taken, ← c .before .before .is-new .ensures, c .before .before .before .version-with .ensures)
+returns c =
+    λ ns vs n. simp (
+      c .rise .ensures ns vs n,
+      c .before .if1 .taken,
+      ← c .before .before .is-new .ensures,
+      c .before .before .before .version-with .ensures,
+    )
 
 returns-2 : tie.Need-returns-2
 unfolding released

@@ -1,4 +1,4 @@
--- Each way through `rise` is a case of `rise`.
+-- The tests are the definition's, in its order: the top's range, the top reached, the remembered node in use.
 use Rattle.model.specs.Phases.{rise}
 use borrow.Author.Tests.{le-leb, le-ltb, lt-leb, lt-ltb}
 use borrow.Author.Needs.{needs}
@@ -30,11 +30,22 @@ go-requires c κs = search needs
 
 returns-3 : tie.Need-returns-3
 unfolding rise
-returns-3 c = λ ns vs n. simp (lt-ltb _ _ (c .if3 .taken), lt-leb _ _ (c .before .before .if2 .left), le-ltb _ _ (c .before .before .before .before .before .if1 .left))
+returns-3 c =
+    λ ns vs n. simp (
+      lt-ltb _ _ (c .if3 .taken),
+      lt-leb _ _ (c .before .before .if2 .left),
+      le-ltb _ _ (c .before .before .before .before .before .if1 .left),
+    )
 
 returns-4 : tie.Need-returns-4
 unfolding rise
-returns-4 c = λ ns vs n. simp (c .go .ensures, le-ltb _ _ (c .before .if3 .left), lt-leb _ _ (c .before .before .before .if2 .left), le-ltb _ _ (c .before .before .before .before .before .before .if1 .left))
+returns-4 c =
+    λ ns vs n. simp (
+      c .go .ensures,
+      le-ltb _ _ (c .before .if3 .left),
+      lt-leb _ _ (c .before .before .before .if2 .left),
+      le-ltb _ _ (c .before .before .before .before .before .before .if1 .left),
+    )
 
 pub rise-spec : {M : Type 1} → statement M
 rise-spec =

@@ -1,4 +1,4 @@
--- `settle` is its definition, word for word.
+-- The phase given at level 0, link above it.
 use borrow.Author.Tests.{eq-eqb, ne-eqb}
 use borrow.Author.Needs.{needs}
 use Rattle.phases.proofs.lock.settle.Statement.{statement}

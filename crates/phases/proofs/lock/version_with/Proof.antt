@@ -1,4 +1,4 @@
--- `version_with` is its definition, word for word.
+-- Each arm of the match gives the definition's case.
 use borrow.Author.Needs.{needs}
 use Rattle.phases.proofs.lock.version_with.Statement.{statement}
 use Rattle.phases.proofs.lock.version_with.Tie as tie

@@ -1,4 +1,4 @@
--- Each way through `add_node` is a case of `addNode`.
+-- A straight line: the new node's words and link, its version, both counts.
 use Rattle.model.specs.Phases.{addNode}
 use borrow.Author.Needs.{needs}
 use Rattle.phases.proofs.put.add_node.Statement.{statement}

@@ -1,4 +1,4 @@
--- Each way through `add_version` is a case of `addVersion`.
+-- A straight line: the newest version is read for the new one's link back before it is replaced.
 use Rattle.model.specs.Phases.{addVersion}
 use borrow.Author.Needs.{needs}
 use Rattle.phases.proofs.put.add_version.Statement.{statement}
@@ -24,7 +24,12 @@ same-length-2 c = search needs
 
 returns : tie.Need-returns
 unfolding addVersion
-returns c = simp (c .before .before .set-newest .ensures, c .before .before .before .before .before .before .write-version .ensures, ← c .before .before .before .before .before .before .before .before .newest-at .ensures)
+returns c =
+    simp (
+      c .before .before .set-newest .ensures,
+      c .before .before .before .before .before .before .write-version .ensures,
+      ← c .before .before .before .before .before .before .before .before .newest-at .ensures,
+    )
 
 pub add-version-spec : {M : Type 1} → statement M
 add-version-spec =

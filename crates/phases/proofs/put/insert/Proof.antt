@@ -1,4 +1,4 @@
--- `insert` is its definition, word for word.
+-- A straight line: the predecessor's link is read for the new node before it is replaced.
 use borrow.Author.Needs.{needs}
 use Rattle.phases.proofs.put.insert.Statement.{statement}
 use Rattle.phases.proofs.put.insert.Tie as tie
@@ -16,7 +16,12 @@ same-length : tie.Need-same-length
 same-length c = search needs
 
 returns : tie.Need-returns
-returns c = simp (c .before .before .set-next .ensures, c .before .before .before .before .before .before .write-node .ensures, c .before .before .before .before .before .before .before .before .next-at .ensures)
+returns c =
+    simp (
+      c .before .before .set-next .ensures,
+      c .before .before .before .before .before .before .write-node .ensures,
+      c .before .before .before .before .before .before .before .before .next-at .ensures,
+    )
 
 pub insert-spec : {M : Type 1} → statement M
 insert-spec =

@@ -1,4 +1,4 @@
--- `keep` is its definition, word for word.
+-- The tables' counts stay, and the move is a commit.
 use borrow.Author.Needs.{needs}
 use Rattle.phases.proofs.put.keep.Statement.{statement}
 use Rattle.phases.proofs.put.keep.Tie as tie

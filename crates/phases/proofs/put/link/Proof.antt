@@ -1,6 +1,7 @@
--- Each way through `link` is a case of `linkOf`.
+-- A straight line where the new node is in use: the predecessor's link is read for it before it is replaced.
 use Rattle.model.specs.Phases.{addLink, linkOf}
-use Rattle.tables.proofs.Tests.{and-iff, leb-iff}
+use mathlib.Core.Bool.{and-eq-true-iff}
+use Rattle.model.proofs.Tests.{leb-iff}
 use borrow.Author.Needs.{needs}
 use Rattle.phases.proofs.put.link.Statement.{statement}
 use Rattle.phases.proofs.put.link.Tie as tie
@@ -9,7 +10,7 @@ next-at-requires : tie.Need-next-at-requires
 next-at-requires c κs = search needs
 
 set-next-requires : tie.Need-set-next-requires
-set-next-requires c κs = let f = simp (and-iff, leb-iff) at (c .before .before .before .if1 .taken) in search needs
+set-next-requires c κs = let f = simp (and-eq-true-iff, leb-iff) at (c .before .before .before .if1 .taken) in search needs
 
 set-next-requires-2 : tie.Need-set-next-requires-2
 set-next-requires-2 c κs = search needs
@@ -22,7 +23,14 @@ same-length c = search needs
 
 returns : tie.Need-returns
 unfolding linkOf addLink
-returns c = λ vs n. simp (c .go .ensures, c .before .before .before .set-next2 .ensures, c .before .before .before .before .before .before .before .set-next .ensures, c .before .before .before .before .before .before .before .before .before .next-at .ensures, c .before .before .before .before .before .before .before .before .before .before .before .if1 .taken)
+returns c =
+    λ vs n. simp (
+      c .go .ensures,
+      c .before .before .before .set-next2 .ensures,
+      c .before .before .before .before .before .before .before .set-next .ensures,
+      c .before .before .before .before .before .before .before .before .before .next-at .ensures,
+      c .before .before .before .before .before .before .before .before .before .before .before .if1 .taken,
+    )
 
 returns-2 : tie.Need-returns-2
 unfolding linkOf addLink

@@ -1,4 +1,4 @@
--- Each way through `make` is a case of `makeOf`.
+-- Full tables and the top's range come first; a table that is not full has the room that `add_node` asks for.
 use Rattle.model.specs.Phases.{makeOf}
 use Rattle.tables.proofs.Tests.{node-room, version-room}
 use mathlib.Core.Path.{sym, _∙_}
@@ -34,7 +34,14 @@ same-length-3 c = search needs
 
 returns-2 : tie.Need-returns-2
 unfolding makeOf
-returns-2 c = simp (c .keep2 .ensures, c .before .if2 .taken, ← c .before .before .versions-full .ensures, c .before .before .before .before .if1 .left, ← c .before .before .before .before .before .nodes-full .ensures)
+returns-2 c =
+    simp (
+      c .keep2 .ensures,
+      c .before .if2 .taken,
+      ← c .before .before .versions-full .ensures,
+      c .before .before .before .before .if1 .left,
+      ← c .before .before .before .before .before .nodes-full .ensures,
+    )
 
 same-length-4 : tie.Need-same-length-4
 same-length-4 c = search needs
@@ -44,10 +51,23 @@ same-length-5 c = search needs
 
 returns-3 : tie.Need-returns-3
 unfolding makeOf
-returns-3 c = simp (lt-ltb _ _ (c .if3 .taken), c .before .before .if2 .left, ← c .before .before .before .versions-full .ensures, c .before .before .before .before .before .if1 .left, ← c .before .before .before .before .before .before .nodes-full .ensures)
+returns-3 c =
+    simp (
+      lt-ltb _ _ (c .if3 .taken),
+      c .before .before .if2 .left,
+      ← c .before .before .before .versions-full .ensures,
+      c .before .before .before .before .before .if1 .left,
+      ← c .before .before .before .before .before .before .nodes-full .ensures,
+    )
 
 add-node-requires : tie.Need-add-node-requires
-add-node-requires c κs = let a = c .before .before .before .before .before .before .before .before .before .before .before .before .args in let r = version-room (a .versions .now) (a .counts .versions) (sym (c .before .before .before .before .before .versions-full .ensures) ∙ c .before .before .before .before .if2 .left) in let q = node-room (a .nodes .now) (a .counts .nodes) (sym (c .before .before .before .before .before .before .before .before .nodes-full .ensures) ∙ c .before .before .before .before .before .before .before .if1 .left) in search needs
+add-node-requires c κs =
+    let a = c .before .before .before .before .before .before .before .before .before .before .before .before .args in
+    let v = sym (c .before .before .before .before .before .versions-full .ensures) ∙ c .before .before .before .before .if2 .left in
+    let n = sym (c .before .before .before .before .before .before .before .before .nodes-full .ensures) ∙ c .before .before .before .before .before .before .before .if1 .left in
+    let r = version-room (a .versions .now) (a .counts .versions) v in
+    let q = node-room (a .nodes .now) (a .counts .nodes) n in
+    search needs
 
 add-commit : tie.Need-add-commit
 add-commit c = search needs
@@ -63,7 +83,17 @@ same-length-7 c = search needs
 
 returns-4 : tie.Need-returns-4
 unfolding makeOf
-returns-4 c = simp (c .commit .ensures, c .before .before .before .before .before .before .add-node .ensures, le-ltb _ _ (c .before .before .before .before .before .before .before .before .before .if3 .left), c .before .before .before .before .before .before .before .before .before .before .before .if2 .left, ← c .before .before .before .before .before .before .before .before .before .before .before .before .versions-full .ensures, c .before .before .before .before .before .before .before .before .before .before .before .before .before .before .if1 .left, ← c .before .before .before .before .before .before .before .before .before .before .before .before .before .before .before .nodes-full .ensures)
+returns-4 c =
+    let v = c .before .before .before .before .before .before .before .before .before .before .before .before in
+    simp (
+      c .commit .ensures,
+      c .before .before .before .before .before .before .add-node .ensures,
+      le-ltb _ _ (c .before .before .before .before .before .before .before .before .before .if3 .left),
+      c .before .before .before .before .before .before .before .before .before .before .before .if2 .left,
+      ← v .versions-full .ensures,
+      v .before .before .if1 .left,
+      ← v .before .before .before .nodes-full .ensures,
+    )
 
 pub make-spec : {M : Type 1} → statement M
 make-spec =

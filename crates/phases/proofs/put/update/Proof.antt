@@ -1,6 +1,7 @@
--- Each way through `update` is a case of `updateOf`.
+-- The node and its newest version are tested; what the tests tell is what `update_node` asks for.
 use Rattle.model.specs.Phases.{updateAt, updateOf}
-use Rattle.tables.proofs.Tests.{and-iff, leb-iff}
+use mathlib.Core.Bool.{and-eq-true-iff}
+use Rattle.model.proofs.Tests.{leb-iff}
 use borrow.Author.Needs.{needs}
 use Rattle.phases.proofs.put.update.Statement.{statement}
 use Rattle.phases.proofs.put.update.Tie as tie
@@ -9,10 +10,12 @@ next-at-requires : tie.Need-next-at-requires
 next-at-requires c κs = search needs
 
 newest-at-requires : tie.Need-newest-at-requires
-newest-at-requires c κs = let f = simp (and-iff, leb-iff) at (c .before .if1 .taken) in search needs
+newest-at-requires c κs = let f = simp (and-eq-true-iff, leb-iff) at (c .before .if1 .taken) in search needs
 
 update-node-requires : tie.Need-update-node-requires
-update-node-requires c κs = let f = simp (and-iff, leb-iff) at (c .before .before .if2 .taken) in let g = simp (and-iff, leb-iff) at (c .before .before .before .before .before .if1 .taken) in search needs
+update-node-requires c κs =
+    let f = simp (and-eq-true-iff, leb-iff) at (c .before .before .if2 .taken) in
+    let g = simp (and-eq-true-iff, leb-iff) at (c .before .before .before .before .before .if1 .taken) in search needs
 
 same-length : tie.Need-same-length
 same-length c = search needs
@@ -22,14 +25,27 @@ same-length-2 c = search needs
 
 returns : tie.Need-returns
 unfolding updateOf updateAt
-returns c = simp (c .before .before .before .before .update-node .ensures, c .before .before .before .before .before .before .before .if2 .taken, ← c .before .before .before .before .before .before .before .before .newest-at .ensures, c .before .before .before .before .before .before .before .before .before .before .if1 .taken, ← c .before .before .before .before .before .before .before .before .before .before .before .next-at .ensures)
+returns c =
+    simp (
+      c .before .before .before .before .update-node .ensures,
+      c .before .before .before .before .before .before .before .if2 .taken,
+      ← c .before .before .before .before .before .before .before .before .newest-at .ensures,
+      c .before .before .before .before .before .before .before .before .before .before .if1 .taken,
+      ← c .before .before .before .before .before .before .before .before .before .before .before .next-at .ensures,
+    )
 
 same-length-3 : tie.Need-same-length-3
 same-length-3 c = search needs
 
 returns-2 : tie.Need-returns-2
 unfolding updateOf updateAt
-returns-2 c = simp (c .if2 .left, ← c .before .newest-at .ensures, c .before .before .before .if1 .taken, ← c .before .before .before .before .next-at .ensures)
+returns-2 c =
+    simp (
+      c .if2 .left,
+      ← c .before .newest-at .ensures,
+      c .before .before .before .if1 .taken,
+      ← c .before .before .before .before .next-at .ensures,
+    )
 
 same-length-4 : tie.Need-same-length-4
 same-length-4 c = search needs

@@ -1,7 +1,8 @@
--- Each way through `update_node` is a case of `updateNode`.
+-- Too old, full or added; a table that is not full has the room that `add_version` asks for.
 use Rattle.model.specs.Phases.{updateNode}
 use Rattle.tables.proofs.Tests.{version-room}
 use mathlib.Core.Path.{sym, _∙_}
+use native.Mathlib.Omega.{arith}
 use borrow.Author.Tests.{le-ltb, lt-ltb}
 use borrow.Author.Needs.{needs}
 use Rattle.phases.proofs.put.update_node.Statement.{statement}
@@ -18,7 +19,11 @@ same-length c = search needs
 
 returns : tie.Need-returns
 unfolding updateNode
-returns c = simp (c .keep .ensures, lt-ltb _ _ (c .before .if1 .taken), ← c .before .before .before .timestamp-at .ensures)
+returns c =
+    let t = c .before .before .before in
+    let own = t .before .before .before .before .args .call .timestamp in
+    let lt = lt-ltb own (t .timestamp-at .result) (omega arith) in
+    simp (c .keep .ensures, lt, ← t .timestamp-at .ensures)
 
 versions-full-requires : tie.Need-versions-full-requires
 versions-full-requires c κs = search needs
@@ -31,10 +36,18 @@ same-length-2 c = search needs
 
 returns-2 : tie.Need-returns-2
 unfolding updateNode
-returns-2 c = simp (c .keep2 .ensures, c .before .if2 .taken, ← c .before .before .versions-full .ensures, le-ltb _ _ (c .before .before .before .before .if1 .left), ← c .before .before .before .before .before .before .timestamp-at .ensures)
+returns-2 c =
+    let t = c .before .before .before .before .before .before in
+    let own = t .before .before .before .before .args .call .timestamp in
+    let ge = le-ltb own (t .timestamp-at .result) (omega arith) in
+    simp (c .keep2 .ensures, c .before .if2 .taken, ← c .before .before .versions-full .ensures, ge, ← t .timestamp-at .ensures)
 
 add-version-requires : tie.Need-add-version-requires
-add-version-requires c κs = let a = c .before .before .before .before .before .before .before .before .before .before .before .args in let r = version-room (a .versions .now) (a .counts .versions) (sym (c .before .before .before .versions-full .ensures) ∙ c .before .before .if2 .left) in search needs
+add-version-requires c κs =
+    let a = c .before .before .before .before .before .before .before .before .before .before .before .args in
+    let v = sym (c .before .before .before .versions-full .ensures) ∙ c .before .before .if2 .left in
+    let r = version-room (a .versions .now) (a .counts .versions) v in
+    search needs
 
 keep-requires-3 : tie.Need-keep-requires-3
 keep-requires-3 c κs = search needs
@@ -47,7 +60,19 @@ same-length-4 c = search needs
 
 returns-3 : tie.Need-returns-3
 unfolding updateNode
-returns-3 c = simp (c .keep3 .ensures, c .before .before .before .before .before .add-version .ensures, c .before .before .before .before .before .before .before .before .if2 .left, ← c .before .before .before .before .before .before .before .before .before .versions-full .ensures, le-ltb _ _ (c .before .before .before .before .before .before .before .before .before .before .before .if1 .left), ← c .before .before .before .before .before .before .before .before .before .before .before .before .before .timestamp-at .ensures)
+returns-3 c =
+    let p = c .before .before .before .before .before .before .before .before .before .before .before in
+    let t = p .before .before in
+    let own = t .before .before .before .before .args .call .timestamp in
+    let ge = le-ltb own (t .timestamp-at .result) (omega (arith, p .if1 .left)) in
+    simp (
+      c .keep3 .ensures,
+      c .before .before .before .before .before .add-version .ensures,
+      c .before .before .before .before .before .before .before .before .if2 .left,
+      ← c .before .before .before .before .before .before .before .before .before .versions-full .ensures,
+      ge,
+      ← t .timestamp-at .ensures,
+    )
 
 pub update-node-spec : {M : Type 1} → statement M
 update-node-spec =

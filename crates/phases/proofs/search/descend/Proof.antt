@@ -1,4 +1,4 @@
--- Each way through `descend` is a case of `descend`.
+-- By level, then by kind, then by what was found.
 use Rattle.model.specs.Phases.{descend, walked}
 use borrow.Author.Tests.{eq-eqb, ne-eqb}
 use borrow.Author.Needs.{needs}
@@ -40,7 +40,13 @@ returns-3 c = simp (eq-eqb _ _ (c .if2 .taken), c .before .enum-told3 .given .1,
 
 returns-4 : tie.Need-returns-4
 unfolding descend walked
-returns-4 c = simp (c .note2 .ensures, ne-eqb _ _ (c .before .if2 .left), c .before .before .enum-told3 .given .1, eq-eqb _ _ (c .before .before .before .before .if1 .taken))
+returns-4 c =
+    simp (
+      c .note2 .ensures,
+      ne-eqb _ _ (c .before .if2 .left),
+      c .before .before .enum-told3 .given .1,
+      eq-eqb _ _ (c .before .before .before .before .if1 .taken),
+    )
 
 returns-5 : tie.Need-returns-5
 unfolding descend walked

@@ -1,6 +1,7 @@
--- Each way through `read` is a case of `readOf`.
+-- A newest version in use is shown, any other refused.
 use Rattle.model.specs.Phases.{readOf}
-use Rattle.tables.proofs.Tests.{and-iff, leb-iff}
+use mathlib.Core.Bool.{and-eq-true-iff}
+use Rattle.model.proofs.Tests.{leb-iff}
 use borrow.Author.Needs.{needs}
 use Rattle.phases.proofs.search.read.Statement.{statement}
 use Rattle.phases.proofs.search.read.Tie as tie
@@ -9,7 +10,7 @@ newest-at-requires : tie.Need-newest-at-requires
 newest-at-requires c κs = search needs
 
 version-at-requires : tie.Need-version-at-requires
-version-at-requires c κs = let f = simp (and-iff, leb-iff) at (c .if1 .taken) in search needs
+version-at-requires c κs = let f = simp (and-eq-true-iff, leb-iff) at (c .if1 .taken) in search needs
 
 returns : tie.Need-returns
 unfolding readOf

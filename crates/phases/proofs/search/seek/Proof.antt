@@ -1,4 +1,4 @@
--- Each way through `seek` is a case of `seekOf`.
+-- Where the link leads decides; each answer of `ahead` is a case of `seekOf`.
 use Rattle.model.specs.Phases.{seekBy, seekOf}
 use borrow.Author.Needs.{needs}
 use Rattle.phases.proofs.search.seek.Statement.{statement}

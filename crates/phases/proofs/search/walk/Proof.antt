@@ -1,4 +1,4 @@
--- Each way through `walk` is a case of `walkOf`.
+-- Where the link leads decides; each answer of `ahead` is a case of `walkOf`.
 use Rattle.model.specs.Phases.{walkBy, walkOf}
 use borrow.Author.Needs.{needs}
 use Rattle.phases.proofs.search.walk.Statement.{statement}

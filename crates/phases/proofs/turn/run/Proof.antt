@@ -63,7 +63,9 @@ same-length c = search needs
 
 returns : tie.Need-returns
 unfolding phaseOf
-returns c = let a = c .before .before .before .before .before .before .args in simp (c .walk .ensures (a .versions .now) (a .counts .versions), c .before .before .enum-told .given .1)
+returns c =
+    let a = c .before .before .before .before .before .before .args in
+    simp (c .walk .ensures (a .versions .now) (a .counts .versions), c .before .before .enum-told .given .1)
 
 same-length-2 : tie.Need-same-length-2
 same-length-2 c = search needs
@@ -73,28 +75,37 @@ same-length-3 c = search needs
 
 returns-2 : tie.Need-returns-2
 unfolding phaseOf
-returns-2 c = let a = c .before .before .before .before .before .before .before .args in simp (c .read .ensures (a .call), c .before .before .before .enum-told2 .given .1)
+returns-2 c =
+    let a = c .before .before .before .before .before .before .before .args in
+    simp (c .read .ensures (a .call), c .before .before .before .enum-told2 .given .1)
 
 same-length-4 : tie.Need-same-length-4
 same-length-4 c = search needs
 
 returns-3 : tie.Need-returns-3
 unfolding phaseOf
-returns-3 c = let a = c .before .before .before .before .before .before .args in simp (c .seek .ensures (a .versions .now) (a .counts .versions), c .before .before .enum-told3 .given .1)
+returns-3 c =
+    let a = c .before .before .before .before .before .before .args in
+    simp (c .seek .ensures (a .versions .now) (a .counts .versions), c .before .before .enum-told3 .given .1)
 
 same-length-5 : tie.Need-same-length-5
 same-length-5 c = search needs
 
 returns-4 : tie.Need-returns-4
 unfolding phaseOf
-returns-4 c = let a = c .before .before .before .before .before .before .before .before .args in simp (c .before .before .before .before .enum-told4 .given .1) (c .before .before .acquire .ensures (a .versions .now) (a .counts))
+returns-4 c =
+    let a = c .before .before .before .before .before .before .before .before .args in
+    simp (c .before .before .before .before .enum-told4 .given .1) (c .before .before .acquire .ensures (a .versions .now) (a .counts))
 
 same-length-6 : tie.Need-same-length-6
 same-length-6 c = search needs
 
 returns-5 : tie.Need-returns-5
 unfolding phaseOf
-returns-5 c = let a = c .before .before .before .before .before .before .before .before .args in simp (c .before .before .before .before .enum-told5 .given .1) (c .before .before .check .ensures (a .versions .now) (a .counts .versions))
+returns-5 c =
+    let a = c .before .before .before .before .before .before .before .before .args in
+    simp (c .before .before .before .before .enum-told5 .given .1)
+    (c .before .before .check .ensures (a .versions .now) (a .counts .versions))
 
 same-length-7 : tie.Need-same-length-7
 same-length-7 c = search needs
@@ -104,7 +115,9 @@ same-length-8 c = search needs
 
 returns-6 : tie.Need-returns-6
 unfolding phaseOf
-returns-6 c = simp (c .before .before .before .before .before .before .before .enum-told6 .given .1) (c .before .before .before .before .update .ensures)
+returns-6 c =
+    simp (c .before .before .before .before .before .before .before .enum-told6 .given .1)
+    (c .before .before .before .before .update .ensures)
 
 same-length-9 : tie.Need-same-length-9
 same-length-9 c = search needs
@@ -114,21 +127,29 @@ same-length-10 c = search needs
 
 returns-7 : tie.Need-returns-7
 unfolding phaseOf
-returns-7 c = simp (c .before .before .before .before .before .before .before .enum-told7 .given .1) (c .before .before .before .before .make .ensures)
+returns-7 c =
+    simp (c .before .before .before .before .before .before .before .enum-told7 .given .1)
+    (c .before .before .before .before .make .ensures)
 
 same-length-11 : tie.Need-same-length-11
 same-length-11 c = search needs
 
 returns-8 : tie.Need-returns-8
 unfolding phaseOf
-returns-8 c = let a = c .before .before .before .before .before .before .before .before .args in simp (c .before .before .before .before .enum-told8 .given .1) (c .before .before .link .ensures (a .versions .now) (a .counts .versions))
+returns-8 c =
+    let a = c .before .before .before .before .before .before .before .before .args in
+    simp (c .before .before .before .before .enum-told8 .given .1)
+    (c .before .before .link .ensures (a .versions .now) (a .counts .versions))
 
 same-length-12 : tie.Need-same-length-12
 same-length-12 c = search needs
 
 returns-9 : tie.Need-returns-9
 unfolding phaseOf
-returns-9 c = let a = c .before .before .before .before .before .before .before .before .args in simp (c .before .before .before .before .enum-told9 .given .1) (c .before .before .release .ensures (a .versions .now) (a .counts .versions))
+returns-9 c =
+    let a = c .before .before .before .before .before .before .before .before .args in
+    simp (c .before .before .before .before .enum-told9 .given .1)
+    (c .before .before .release .ensures (a .versions .now) (a .counts .versions))
 
 pub run-spec : {M : Type 1} → statement M
 run-spec =

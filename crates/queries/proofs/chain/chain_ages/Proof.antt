@@ -6,7 +6,7 @@ use mathlib.Core.Path.{_≡_, refl, _∙_, sym}
 use native.Mathlib.Omega.{arith}
 use borrow.Author.Needs.{needs}
 use Rattle.model.specs.Inspection.{chainFalls, chainAges}
-use Rattle.queries.specs.Lent.{versionsIn}
+use Rattle.tables.specs.Room.{versionsIn}
 use Rattle.queries.proofs.ChainTurns.{falls-used, falls-less, falls-behind, ages-oldest, ages-younger, ages-on}
 use Rattle.queries.proofs.chain.chain_ages.Statement.{statement}
 use Rattle.queries.proofs.chain.chain_ages.Tie as tie
@@ -42,7 +42,11 @@ chain-less : tie.Need-chain-less Inv-chain μ-chain
 chain-less c =
     let a = c .before .before .before .before .before .before .before .args in
     let l = c .before .before .before .before .before .chain in
-    omega (arith, falls-less (versionsIn (a .versions .now) (a .held) [] 0) (l .i) (l .inv .1 [] 0) _ (c .before .before .before .before .prev-at .ensures))
+    omega (
+      arith,
+      falls-less (versionsIn (a .versions .now) (a .held) [] 0) (l .i) (l .inv .1 [] 0) _
+          (c .before .before .before .before .prev-at .ensures),
+    )
 
 chain-again : tie.Need-chain-again Inv-chain μ-chain
 chain-again c =
@@ -53,7 +57,9 @@ chain-again c =
     let less = falls-less (versionsIn (a .versions .now) (a .held) [] 0) (l .i) (l .inv .1 [] 0) _ e in (
       omega arith,
       λ nodes n. falls-behind (versionsIn (a .versions .now) (a .held) nodes n) (l .i) (l .inv .1 nodes n) _ e nz,
-      λ nodes n. l .inv .2 nodes n ∙ ages-on (versionsIn (a .versions .now) (a .held) nodes n) (l .i) (l .inv .1 nodes n) _ e nz _ _ (c .before .before .timestamp-at .ensures) (c .before .timestamp-at2 .ensures) (c .if2 .left),
+      λ nodes n. l .inv .2 nodes n
+          ∙ ages-on (versionsIn (a .versions .now) (a .held) nodes n) (l .i) (l .inv .1 nodes n) _ e nz _ _
+          (c .before .before .timestamp-at .ensures) (c .before .timestamp-at2 .ensures) (c .if2 .left),
     )
 
 returns : tie.Need-returns Inv-chain μ-chain
@@ -68,7 +74,11 @@ returns-2 c =
     let a = c .before .before .before .before .before .before .before .args in
     let l = c .before .before .before .before .before .chain in
     λ nodes n. let m = versionsIn (a .versions .now) (a .held) nodes n in
-    sym (l .inv .2 nodes n ∙ ages-younger m (l .i) (l .inv .1 nodes n) _ (c .before .before .before .before .prev-at .ensures) (c .before .before .before .if1 .left) _ _ (c .before .before .timestamp-at .ensures) (c .before .timestamp-at2 .ensures) (c .if2 .taken))
+    sym
+    (l .inv .2 nodes n
+    ∙ ages-younger m (l .i) (l .inv .1 nodes n) _ (c .before .before .before .before .prev-at .ensures)
+    (c .before .before .before .if1 .left) _ _ (c .before .before .timestamp-at .ensures)
+    (c .before .timestamp-at2 .ensures) (c .if2 .taken))
 
 pub chain-ages-spec : {M : Type 1} → statement M
 chain-ages-spec =

@@ -5,7 +5,7 @@ use mathlib.Core.Path.{_≡_, refl, _∙_, sym}
 use native.Mathlib.Omega.{arith}
 use borrow.Author.Needs.{needs}
 use Rattle.model.specs.Inspection.{chainFalls}
-use Rattle.queries.specs.Lent.{versionsIn}
+use Rattle.tables.specs.Room.{versionsIn}
 use Rattle.queries.proofs.ChainTurns.{falls-zero, falls-unused, falls-rising, falls-oldest, falls-on}
 use Rattle.queries.proofs.chain.chain_falls.Statement.{statement}
 use Rattle.queries.proofs.chain.chain_falls.Tie as tie
@@ -31,7 +31,8 @@ chain-again c =
     let a = c .before .before .before .before .before .before .before .args in
     let l = c .before .before .before .before .before .chain in
     λ nodes n. let m = versionsIn (a .versions .now) (a .held) nodes n in
-    l .inv nodes n ∙ falls-on m (l .i) _ (c .before .before .prev-at .ensures) (omega arith) (omega arith) (c .before .if3 .left) (c .if4 .left)
+    l .inv nodes n
+    ∙ falls-on m (l .i) _ (c .before .before .prev-at .ensures) (omega arith) (omega arith) (c .before .if3 .left) (c .if4 .left)
 
 returns : tie.Need-returns Inv-chain μ-chain
 returns c =
@@ -59,7 +60,9 @@ returns-4 c =
     let a = c .before .before .before .before .before .before .before .args in
     let l = c .before .before .before .before .before .chain in
     λ nodes n. let m = versionsIn (a .versions .now) (a .held) nodes n in
-    sym (l .inv nodes n ∙ falls-oldest m (l .i) _ (c .before .before .prev-at .ensures) (omega arith) (omega arith) (c .before .if3 .left) (c .if4 .taken))
+    sym
+    (l .inv nodes n
+    ∙ falls-oldest m (l .i) _ (c .before .before .prev-at .ensures) (omega arith) (omega arith) (c .before .if3 .left) (c .if4 .taken))
 
 pub chain-falls-spec : {M : Type 1} → statement M
 chain-falls-spec =

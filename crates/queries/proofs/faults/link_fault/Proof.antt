@@ -17,7 +17,8 @@ key-at-requires-2 c κs = search needs
 returns-2 : tie.Need-returns-2
 returns-2 c =
     let le = le-leb (c .before .before .key-at .result) (c .before .key-at2 .result) (omega arith) in
-    λ vs n. simp (le-ltb _ _ (c .before .before .before .if1 .left), ← c .before .before .key-at .ensures, ← c .before .key-at2 .ensures, le)
+    λ vs n.
+    simp (le-ltb _ _ (c .before .before .before .if1 .left), ← c .before .before .key-at .ensures, ← c .before .key-at2 .ensures, le)
 
 top-at-requires : tie.Need-top-at-requires
 top-at-requires c κs = search needs
@@ -25,7 +26,13 @@ top-at-requires c κs = search needs
 returns-3 : tie.Need-returns-3
 returns-3 c =
     let gt = lt-leb (c .before .before .before .key-at .result) (c .before .before .key-at2 .result) (omega arith) in
-    λ vs n. simp (le-ltb _ _ (c .before .before .before .before .if1 .left), ← c .before .before .before .key-at .ensures, ← c .before .before .key-at2 .ensures, gt, c .top-at .ensures)
+    λ vs n. simp (
+      le-ltb _ _ (c .before .before .before .before .if1 .left),
+      ← c .before .before .before .key-at .ensures,
+      ← c .before .before .key-at2 .ensures,
+      gt,
+      c .top-at .ensures,
+    )
 
 pub link-fault-spec : {M : Type 1} → statement M
 link-fault-spec =

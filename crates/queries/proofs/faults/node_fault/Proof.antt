@@ -22,7 +22,11 @@ returns-3 : tie.Need-returns-3
 returns-3 c =
     let a = c .before .before .before .before .before .before .args in
     let m = memory (a .nodes .now) (a .versions .now) (a .counts) in
-    simp (← c .before .before .before .lock-at .ensures, eq-eqb _ _ (c .before .before .if1 .left), sound-head m (a .level) (a .node) (c .before .if2 .left) (c .if3 .taken))
+    simp (
+      ← c .before .before .before .lock-at .ensures,
+      eq-eqb _ _ (c .before .before .if1 .left),
+      sound-head m (a .level) (a .node) (c .before .if2 .left) (c .if3 .taken),
+    )
 
 chain-sound-requires : tie.Need-chain-sound-requires
 chain-sound-requires c κs = search needs
@@ -31,7 +35,12 @@ returns-4 : tie.Need-returns-4
 returns-4 c =
     let a = c .before .before .before .before .before .before .before .args in
     let m = memory (a .nodes .now) (a .versions .now) (a .counts) in
-    simp (← c .before .before .before .before .lock-at .ensures, eq-eqb _ _ (c .before .before .before .if1 .left), sound-chain m (a .level) (a .node) (c .before .before .if2 .left) (c .before .if3 .left), c .chain-sound .ensures)
+    simp (
+      ← c .before .before .before .before .lock-at .ensures,
+      eq-eqb _ _ (c .before .before .before .if1 .left),
+      sound-chain m (a .level) (a .node) (c .before .before .if2 .left) (c .before .if3 .left),
+      c .chain-sound .ensures,
+    )
 
 pub node-fault-spec : {M : Type 1} → statement M
 node-fault-spec =

@@ -32,8 +32,11 @@ loop-less c = search needs
 loop-again : tie.Need-loop-again Inv-loop μ-loop
 loop-again c =
     let a = c .before .before .before .before .before .args in
-    let l = c .before .before .before .loop in
-    (omega arith, omega arith, omega (arith, reaching-more (a .nodes .now) (a .level) (l .x) _ (c .before .top-at .ensures) (c .if1 .taken)))
+    let l = c .before .before .before .loop in (
+      omega arith,
+      omega arith,
+      omega (arith, reaching-more (a .nodes .now) (a .level) (l .x) _ (c .before .top-at .ensures) (c .if1 .taken)),
+    )
 
 loop-less-2 : tie.Need-loop-less-2 Inv-loop μ-loop
 loop-less-2 c = search needs

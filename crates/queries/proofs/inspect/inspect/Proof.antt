@@ -23,7 +23,8 @@ enum-known-permit c = search needs
 
 returns : tie.Need-returns
 unfolding inspectOf inspectBy
-returns c = simp (← c .before .before .before .before .inspect-permit .ensures, c .before .before .enum-told .given .1, c .inspect-levels .ensures)
+returns c =
+    simp (← c .before .before .before .before .inspect-permit .ensures, c .before .before .enum-told .given .1, c .inspect-levels .ensures)
 
 returns-2 : tie.Need-returns-2
 unfolding inspectOf inspectBy

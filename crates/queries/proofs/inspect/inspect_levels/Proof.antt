@@ -9,7 +9,8 @@ use Rattle.model.specs.Layout.{Memory, topLevel, levels}
 use Rattle.model.specs.Inspection.{levelFrom, levelsFrom, inspection}
 use Rattle.model.proofs.LevelBound.{ahead, ahead-most}
 use Rattle.tables.specs.Room.{memory}
-use Rattle.queries.proofs.LevelTurns.{node-stops, link-stops, level-short, level-whole, Onward, level-goes, level-starts, levels-stop, levels-go, levels-end}
+use Rattle.queries.proofs.LevelTurns.{node-stops, link-stops, level-short, level-whole, Onward, level-goes, level-starts}
+use Rattle.queries.proofs.LevelTurns.{levels-stop, levels-go, levels-end}
 use Rattle.queries.proofs.inspect.inspect_levels.Statement.{statement}
 use Rattle.queries.proofs.inspect.inspect_levels.Tie as tie
 

@@ -27,7 +27,10 @@ returns : tie.Need-returns Inv-loop μ-loop
 returns c =
     let a = c .before .before .before .before .before .args in
     let l = c .before .before .before .loop in
-    sym (l .inv .1 ∙ find-hit (a .nodes .now) (a .key) (a .used) (l .x) _ (c .before .before .loop-test .taken) (c .before .key-at .ensures) (c .if1 .taken))
+    sym
+    (l .inv .1
+    ∙ find-hit (a .nodes .now) (a .key) (a .used) (l .x) _ (c .before .before .loop-test .taken)
+    (c .before .key-at .ensures) (c .if1 .taken))
 
 loop-less : tie.Need-loop-less Inv-loop μ-loop
 loop-less c = search needs
@@ -35,8 +38,12 @@ loop-less c = search needs
 loop-again : tie.Need-loop-again Inv-loop μ-loop
 loop-again c =
     let a = c .before .before .before .before .before .args in
-    let l = c .before .before .before .loop in
-    (omega arith, l .inv .1 ∙ find-miss (a .nodes .now) (a .key) (a .used) (l .x) _ (c .before .before .loop-test .taken) (c .before .key-at .ensures) (c .if1 .left))
+    let l = c .before .before .before .loop in (
+      omega arith,
+      l .inv .1
+          ∙ find-miss (a .nodes .now) (a .key) (a .used) (l .x) _ (c .before .before .loop-test .taken) (c .before .key-at .ensures)
+          (c .if1 .left),
+    )
 
 returns-2 : tie.Need-returns-2 Inv-loop μ-loop
 returns-2 c =

@@ -27,7 +27,8 @@ find-requires c κs =
 look-node-requires : tie.Need-look-node-requires
 look-node-requires c κs =
     let a = c .before .before .before .before .before .before .before .before .args in
-    let p = c .before .before .before .before .look-permit .ensures (a .s) (sym (c .before .before .before .before .before .header-of .ensures)) in
+    let q = c .before .before .before .before in
+    let p = q .look-permit .ensures (a .s) (sym (q .before .header-of .ensures)) in
     let l = look-lent (a .s) (a .nodes .now) (a .versions .now) (a .key) (sym p ∙ c .before .before .enum-told .given .1) in
     let w = find-within (a .nodes .now) (a .key) (a .s .counts .nodes) 1 (omega arith) in
     (l, omega (arith, c .find .ensures))
@@ -39,7 +40,8 @@ returns : tie.Need-returns
 unfolding lookOf lookBy
 returns c =
     let a = c .before .before .before .before .before .before .before .before .before .args in
-    let p = c .before .before .before .before .before .look-permit .ensures (a .s) (sym (c .before .before .before .before .before .before .header-of .ensures)) in
+    let q = c .before .before .before .before .before in
+    let p = q .look-permit .ensures (a .s) (sym (q .before .header-of .ensures)) in
     simp (← p, c .before .before .before .enum-told .given .1, c .look-node .ensures, c .before .find .ensures)
 
 returns-2 : tie.Need-returns-2

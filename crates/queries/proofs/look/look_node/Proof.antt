@@ -2,7 +2,8 @@
 use borrow.Author.Tests.{eq-eqb, ne-eqb}
 use borrow.Author.Needs.{needs}
 use Rattle.model.specs.Calls.{lookNode}
-use Rattle.tables.proofs.Tests.{and-iff, leb-iff}
+use mathlib.Core.Bool.{and-eq-true-iff}
+use Rattle.model.proofs.Tests.{leb-iff}
 use Rattle.queries.proofs.look.look_node.Statement.{statement}
 use Rattle.queries.proofs.look.look_node.Tie as tie
 
@@ -14,11 +15,17 @@ newest-at-requires : tie.Need-newest-at-requires
 newest-at-requires c κs = search needs
 
 version-back-requires : tie.Need-version-back-requires
-version-back-requires c κs = let f = simp (and-iff, leb-iff) at (c .if2 .taken) in search needs
+version-back-requires c κs = let f = simp (and-eq-true-iff, leb-iff) at (c .if2 .taken) in search needs
 
 returns-2 : tie.Need-returns-2
 unfolding lookNode
-returns-2 c = simp (ne-eqb _ _ (c .before .before .before .before .if1 .left), ← c .before .before .before .newest-at .ensures, c .before .if2 .taken, c .version-back .ensures)
+returns-2 c =
+    simp (
+      ne-eqb _ _ (c .before .before .before .before .if1 .left),
+      ← c .before .before .before .newest-at .ensures,
+      c .before .if2 .taken,
+      c .version-back .ensures,
+    )
 
 returns-3 : tie.Need-returns-3
 unfolding lookNode

@@ -31,7 +31,10 @@ returns-2 : tie.Need-returns-2 Inv-loop μ-loop
 returns-2 c =
     let a = c .before .before .before .before .before .before .args in
     let l = c .before .before .before .before .loop in
-    sym (l .inv .2 ∙ back-short (a .versions .now) (l .left) (l .i) _ (omega arith) (c .before .before .prev-at .ensures) (c .before .if1 .left) (c .if2 .taken))
+    sym
+    (l .inv .2
+    ∙ back-short (a .versions .now) (l .left) (l .i) _ (omega arith) (c .before .before .prev-at .ensures) (c .before .if1 .left)
+    (c .if2 .taken))
 
 sub-left : tie.Need-sub-left Inv-loop μ-loop
 sub-left c = search needs
@@ -42,8 +45,13 @@ loop-less c = search needs
 loop-again : tie.Need-loop-again Inv-loop μ-loop
 loop-again c =
     let a = c .before .before .before .before .before .before .args in
-    let l = c .before .before .before .before .loop in
-    (omega arith, omega arith, l .inv .2 ∙ back-on (a .versions .now) (l .left) (l .i) _ (omega arith) (c .before .before .prev-at .ensures) (c .before .if1 .left) (c .if2 .left))
+    let l = c .before .before .before .before .loop in (
+      omega arith,
+      omega arith,
+      l .inv .2
+          ∙ back-on (a .versions .now) (l .left) (l .i) _ (omega arith) (c .before .before .prev-at .ensures) (c .before .if1 .left)
+          (c .if2 .left),
+    )
 
 version-at-requires : tie.Need-version-at-requires Inv-loop μ-loop
 version-at-requires c κs = search needs

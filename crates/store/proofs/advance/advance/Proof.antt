@@ -1,7 +1,5 @@
--- Each way through `advance` is a case of `advanceOf`.
+-- A refused move leaves process and tally; any other is told, counted and put into the process.
 use mathlib.Core.Path.{sym, _∙_, ap}
-use native.Mathlib.Omega.{arith}
-use Rattle.model.specs.Phases.{turnOf, lawfulProcess}
 use Rattle.store.specs.Advance.{advanceOf, advanceBy}
 use Rattle.phases.specs.Turn.{refuses}
 use Rattle.store.proofs.Laws.{refused-advance, moved-advance, level-fits}
@@ -23,7 +21,12 @@ same-length-2 c = search needs
 
 returns : tie.Need-returns
 unfolding advanceOf
-returns c = refused-advance (c .before .before .before .before .before .before .before .before .before .before .before .before .before .before .before .before .before .args .tick) (c .before .before .before .before .before .before .before .before .before .before .before .before .before .before .before .before .before .args .p) (c .before .before .before .before .before .before .before .before .before .before .before .before .before .before .before .before .before .args .tally .now) (c .before .before .before .before .before .before .before .turn .result .mv) _ (sym (c .before .is-refusal .ensures) ∙ c .if1 .taken) ∙ ap (advanceBy (c .before .before .before .before .before .before .before .before .before .before .before .before .before .before .before .before .before .args .tick) (c .before .before .before .before .before .before .before .before .before .before .before .before .before .before .before .before .before .args .p) (c .before .before .before .before .before .before .before .before .before .before .before .before .before .before .before .before .before .args .tally .now)) (c .before .before .before .before .before .before .before .turn .ensures)
+returns c =
+    let t = c .before .before .before .before .before .before .before in
+    let a = t .before .before .before .before .before .before .before .before .before .before .args in
+    refused-advance (a .tick) (a .p) (a .tally .now) (t .turn .result .mv) _
+    (sym (c .before .is-refusal .ensures) ∙ c .if1 .taken)
+    ∙ ap (advanceBy (a .tick) (a .p) (a .tally .now)) (t .turn .ensures)
 
 count-end-requires : tie.Need-count-end-requires
 count-end-requires c κs = search needs
@@ -32,7 +35,13 @@ outcome-of-requires : tie.Need-outcome-of-requires
 outcome-of-requires c κs = search needs
 
 process-after-requires : tie.Need-process-after-requires
-process-after-requires c κs = level-fits (c .before .before .before .before .before .before .before .before .before .before .before .before .before .before .before .before .before .before .before .before .before .before .args .holder) (c .before .before .before .before .before .before .before .before .before .before .before .before .before .before .before .before .before .before .before .before .before .before .args .tick) (c .before .before .before .before .before .before .before .before .before .before .before .before .before .before .before .before .before .before .before .before .before .before .args .p) _ (sym (ap (λ v. refuses (v .move)) (c .before .before .before .before .before .before .before .before .before .before .before .before .turn .ensures)) ∙ sym (c .before .before .before .before .before .before .is-refusal .ensures) ∙ c .before .before .before .before .before .if1 .left)
+process-after-requires c κs =
+    let t = c .before .before .before .before .before .before .before .before .before .before .before .before in
+    let a = t .before .before .before .before .before .before .before .before .before .before .args in
+    level-fits (a .holder) (a .tick) (a .p) _
+    (sym (ap (λ v. refuses (v .move)) (t .turn .ensures))
+    ∙ sym (c .before .before .before .before .before .before .is-refusal .ensures)
+    ∙ c .before .before .before .before .before .if1 .left)
 
 same-length-3 : tie.Need-same-length-3
 same-length-3 c = search needs
@@ -45,7 +54,14 @@ same-length-5 c = search needs
 
 returns-2 : tie.Need-returns-2
 unfolding advanceOf
-returns-2 c = moved-advance (c .before .before .before .before .before .before .before .before .before .before .before .before .before .before .before .before .before .before .before .before .before .before .before .args .tick) (c .before .before .before .before .before .before .before .before .before .before .before .before .before .before .before .before .before .before .before .before .before .before .before .args .p) (c .before .before .before .before .before .before .before .before .before .before .before .before .before .before .before .before .before .before .before .before .before .before .before .args .tally .now) (c .before .before .before .before .before .before .before .before .before .before .before .before .before .turn .result .mv) _ _ _ _ (sym (c .before .before .before .before .before .before .before .is-refusal .ensures) ∙ c .before .before .before .before .before .before .if1 .left) (c .before .outcome-of .ensures) (c .process-after .ensures) (c .before .before .before .before .count-end .ensures) ∙ ap (advanceBy (c .before .before .before .before .before .before .before .before .before .before .before .before .before .before .before .before .before .before .before .before .before .before .before .args .tick) (c .before .before .before .before .before .before .before .before .before .before .before .before .before .before .before .before .before .before .before .before .before .before .before .args .p) (c .before .before .before .before .before .before .before .before .before .before .before .before .before .before .before .before .before .before .before .before .before .before .before .args .tally .now)) (c .before .before .before .before .before .before .before .before .before .before .before .before .before .turn .ensures)
+returns-2 c =
+    let t = c .before .before .before .before .before .before .before .before .before .before .before .before .before in
+    let a = t .before .before .before .before .before .before .before .before .before .before .args in
+    moved-advance (a .tick) (a .p) (a .tally .now) (t .turn .result .mv) _ _ _ _
+    (sym (c .before .before .before .before .before .before .before .is-refusal .ensures)
+    ∙ c .before .before .before .before .before .before .if1 .left)
+    (c .before .outcome-of .ensures) (c .process-after .ensures) (c .before .before .before .before .count-end .ensures)
+    ∙ ap (advanceBy (a .tick) (a .p) (a .tally .now)) (t .turn .ensures)
 
 pub advance-spec : {M : Type 1} → statement M
 advance-spec =

@@ -1,4 +1,4 @@
--- Each way through `outcome_of` is a case of `outcomeOf`.
+-- Each arm of the match gives the definition's case.
 use Rattle.model.specs.Calls.{outcomeOf}
 use borrow.Author.Needs.{needs}
 use Rattle.store.proofs.after.outcome_of.Statement.{statement}

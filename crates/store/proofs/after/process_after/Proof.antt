@@ -1,4 +1,4 @@
--- Each way through `process_after` is a case of `processAfter`.
+-- Each arm of the match gives the definition's case.
 use Rattle.model.specs.Calls.{processAfter}
 use borrow.Author.Needs.{needs}
 use Rattle.store.proofs.after.process_after.Statement.{statement}

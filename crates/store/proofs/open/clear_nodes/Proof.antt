@@ -1,4 +1,4 @@
--- Each way through `clear_nodes` is a case of `freshNodes`.
+-- All words zero, and then the head's top.
 use Rattle.model.specs.Layout.{freshNodes, withWord}
 use borrow.Author.Needs.{needs}
 use Rattle.store.proofs.open.clear_nodes.Statement.{statement}

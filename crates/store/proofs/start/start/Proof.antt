@@ -1,4 +1,4 @@
--- Each way through `start` is a case of `startBy`.
+-- A start that is let pass puts the call at its process's number.
 use native.Mathlib.Omega.{arith}
 use Rattle.permits.proofs.Laws.{MayStart, may-start}
 use Rattle.model.specs.Calls.{startPermit, startBy}
@@ -60,7 +60,10 @@ returns c = simp (← permit-is (c .before .before .before), c .before .permit .
 
 returns-2 : tie.Need-returns-2
 unfolding startBy
-returns-2 c = let f = may (c .before) in let i = c .before .before .before .before .before .before .before .slot .ensures .1 (omega arith) in simp (c .begin .ensures, i, ← permit-is (c .before .before .before), c .before .enum-told .given .1)
+returns-2 c =
+    let f = may (c .before) in
+    let i = c .before .before .before .before .before .before .before .slot .ensures .1 (omega arith) in
+    simp (c .begin .ensures, i, ← permit-is (c .before .before .before), c .before .enum-told .given .1)
 
 pub start-spec : {M : Type 1} → statement M
 start-spec =

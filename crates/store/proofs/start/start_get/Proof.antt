@@ -1,4 +1,4 @@
--- Each way through `start_get` is a case of `startGetOf`.
+-- `start` with a get's operands.
 use Rattle.model.specs.Calls.{startGetOf}
 use borrow.Author.Needs.{needs}
 use Rattle.store.proofs.start.start_get.Statement.{statement}

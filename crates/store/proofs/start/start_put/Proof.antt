@@ -1,4 +1,4 @@
--- Each way through `start_put` is a case of `startPutOf`.
+-- `start` with a put's operands and the top that its draw gives.
 use Rattle.model.specs.Calls.{startPutOf}
 use borrow.Author.Needs.{needs}
 use Rattle.store.proofs.start.start_put.Statement.{statement}

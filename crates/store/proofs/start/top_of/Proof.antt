@@ -1,4 +1,4 @@
--- Each way through `top_of` is a case of `topOf`.
+-- The smaller of the trailing zeros and the highest level.
 use Rattle.model.specs.Calls.{topOf}
 use borrow.Author.Tests.{le-ltb, lt-ltb}
 use Rattle.store.proofs.start.top_of.Statement.{statement}

@@ -1,4 +1,4 @@
--- Each way through `standing` is a case of `standing`.
+-- Each arm of the match gives the definition's case.
 use Rattle.model.specs.Calls.{standing}
 use borrow.Author.Needs.{needs}
 use Rattle.store.proofs.status.standing.Statement.{statement}

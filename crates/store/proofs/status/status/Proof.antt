@@ -1,4 +1,4 @@
--- Each way through `status` is a case of `statusOf`.
+-- What is told is read at the process's number, which a granted permit puts within the array.
 use Rattle.model.specs.Calls.{statusBy, statusOf}
 use mathlib.Core.Path.{sym}
 use Rattle.permits.proofs.Laws.{may-tell}
@@ -22,18 +22,33 @@ mul-p : tie.Need-mul-p
 mul-p c = search needs
 
 element-copy-out-p : tie.Need-element-copy-out-p
-element-copy-out-p c = let a = c .before .before .before .before .args in let f = may-tell (a .t1) (a .process) (c .before .before .status-permit .ensures (c .before .before .before .before .args .t1) (sym (c .before .before .before .header-of .ensures))) (c .enum-told .given .1) in search needs
+element-copy-out-p c =
+    let a = c .before .before .before .before .args in
+    let p = c .before .before .status-permit .ensures (a .t1) (sym (c .before .before .before .header-of .ensures)) in
+    let f = may-tell (a .t1) (a .process) p (c .enum-told .given .1) in
+    search needs
 
 standing-requires : tie.Need-standing-requires
 standing-requires c κs = search needs
 
 returns : tie.Need-returns
 unfolding statusOf statusBy
-returns c = simp (← c .before .before .before .status-permit .ensures (c .before .before .before .before .before .args .t1) (sym (c .before .before .before .before .header-of .ensures)), c .before .permit .given .1)
+returns c =
+    simp (
+      ← c .before .before .before .status-permit .ensures (c .before .before .before .before .before .args .t1)
+          (sym (c .before .before .before .before .header-of .ensures)),
+      c .before .permit .given .1,
+    )
 
 returns-2 : tie.Need-returns-2
 unfolding statusOf statusBy
-returns-2 c = simp (c .standing .ensures, ← c .before .before .before .before .status-permit .ensures (c .before .before .before .before .before .before .args .t1) (sym (c .before .before .before .before .before .header-of .ensures)), c .before .before .enum-told .given .1)
+returns-2 c =
+    simp (
+      c .standing .ensures,
+      ← c .before .before .before .before .status-permit .ensures (c .before .before .before .before .before .before .args .t1)
+          (sym (c .before .before .before .before .before .header-of .ensures)),
+      c .before .before .enum-told .given .1,
+    )
 
 pub status-spec : {M : Type 1} → statement M
 status-spec =

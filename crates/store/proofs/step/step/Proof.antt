@@ -11,7 +11,8 @@ use Rattle.store.proofs.step.step.Statement.{statement}
 use Rattle.store.proofs.step.step.Tie as tie
 
 -- the permit is the definition's: the kind was read at the process's own place
-permit-is : (c : tie.After-step-permit) → let a = c .before .before .before .before .before .before .before .before .before .before .before .args in
+permit-is : (c : tie.After-step-permit)
+    → let a = c .before .before .before .before .before .before .before .before .before .before .before .args in
     c .step-permit .result ≡ stepPermit (storeOf (a .t1) (a .nodes .now) (a .versions .now) (a .tally .now)) (a .process)
 permit-is c =
     c .step-permit .ensures _
@@ -20,13 +21,19 @@ permit-is c =
       found = λ h. simp (c .before .before .before .before .before .before .before .slot .ensures .1 h);
     })
 
-may : (c : tie.After-enum-told) → let a = c .before .before .before .before .before .before .before .before .before .before .before .before .before .args in
+may : (c : tie.After-enum-told)
+    → let a = c .before .before .before .before .before .before .before .before .before .before .before .before .before .args in
     MayStep (storeOf (a .t1) (a .nodes .now) (a .versions .now) (a .tally .now)) (a .process)
 may c = may-step _ _ (permit-is (c .before .before)) (c .enum-told .given .1)
 
 -- the process stands at its number
-found : (c : tie.After-enum-told) → c .before .before .before .before .before .before .before .before .before .slot .result ≡ c .before .before .before .before .before .before .before .before .before .before .before .before .before .args .process
-found c = let f = may c .start in let l = f .lawful .processes in c .before .before .before .before .before .before .before .before .before .slot .ensures .1 (omega (arith, f .process))
+found : (c : tie.After-enum-told)
+    → let s = c .before .before .before .before .before .before .before .before .before in
+    s .slot .result ≡ s .before .before .before .before .args .process
+found c =
+    let f = may c .start in
+    let l = f .lawful .processes in
+    c .before .before .before .before .before .before .before .before .before .slot .ensures .1 (omega (arith, f .process))
 
 slot-requires : tie.Need-slot-requires
 slot-requires c κs = search needs
@@ -56,7 +63,9 @@ add-advance : tie.Need-add-advance
 add-advance c = let f = may c .start in let l = f .lawful .processes in omega (arith, f .process)
 
 advance-requires : tie.Need-advance-requires
-advance-requires c κs = let f = may (c .before .before .before) in (simp (c .before .before .before .before .before .before .before .before .before .header-of .ensures) (lent-may-step _ _ f), f .tally)
+advance-requires c κs =
+    let f = may (c .before .before .before) in
+    (simp (c .before .before .before .before .before .before .before .before .before .header-of .ensures) (lent-may-step _ _ f), f .tally)
 
 same-length : tie.Need-same-length
 same-length c = search needs
@@ -69,17 +78,23 @@ same-length-3 c = search needs
 
 returns : tie.Need-returns
 returns c =
-    step-stays _ _ _ _ (found (c .before .before .before .before .before .before .before .before .before .before .before)) (ap (λ h. h .counts) (c .before .before .before .before .before .before .before .before .before .before .before .before .before .before .before .before .before .header-of .ensures))
-    (sym (permit-is (c .before .before .before .before .before .before .before .before .before .before .before .before .before)) ∙ c .before .before .before .before .before .before .before .before .before .before .before .enum-told .given .1)
+    let e = c .before .before .before .before .before .before .before .before .before .before .before in
+    step-stays _ _ _ _ (found e) (ap (λ h. h .counts) (e .before .before .before .before .before .before .header-of .ensures))
+    (sym (permit-is (e .before .before)) ∙ e .enum-told .given .1)
     (advanced (c .before .before .before .before .before .before .before .advance .result) _ _ _)
     (c .before .before .before .before .before .before .before .advance .ensures)
     (c .if1 .taken)
 
 mul-after : tie.Need-mul-after
-mul-after c = let f = c .before .before .before .before .before .before .before .before .before .before .before .before .before .before .before .before .before .before .before .before .before .before .slot .ensures .0 in omega arith
+mul-after c =
+    let e = c .before .before .before .before .before .before .before .before .before .before .before .before .before in
+    let f = e .before .before .before .before .before .before .before .before .before .slot .ensures .0 in
+    omega arith
 
 element-set-from-after : tie.Need-element-set-from-after
-element-set-from-after c = c .before .before .before .before .before .before .before .before .before .before .before .before .before .before .before .before .before .before .before .before .before .before .slot .ensures .0
+element-set-from-after c =
+    let e = c .before .before .before .before .before .before .before .before .before .before .before .before .before in
+    e .before .before .before .before .before .before .before .before .before .slot .ensures .0
 
 same-length-4 : tie.Need-same-length-4
 same-length-4 c = search needs
@@ -105,8 +120,9 @@ same-length-9 c = search needs
 
 returns-3 : tie.Need-returns-3
 returns-3 c =
-    step-moves _ _ _ _ (found (c .before .before .before .before .before .before .before .before .before .before .before .before .before)) (ap (λ h. h .counts) (c .before .before .before .before .before .before .before .before .before .before .before .before .before .before .before .before .before .before .before .header-of .ensures))
-    (sym (permit-is (c .before .before .before .before .before .before .before .before .before .before .before .before .before .before .before)) ∙ c .before .before .before .before .before .before .before .before .before .before .before .before .before .enum-told .given .1)
+    let e = c .before .before .before .before .before .before .before .before .before .before .before .before .before in
+    step-moves _ _ _ _ (found e) (ap (λ h. h .counts) (e .before .before .before .before .before .before .header-of .ensures))
+    (sym (permit-is (e .before .before)) ∙ e .enum-told .given .1)
     (advanced (c .before .before .before .before .before .before .before .before .before .advance .result) _ _ _)
     (c .before .before .before .before .before .before .before .before .before .advance .ensures)
     (c .before .before .if1 .left)

@@ -1,4 +1,4 @@
--- Each way through `count` is a case of `counted`.
+-- A count below the greatest grows, a full one stays; an answer's place is one of seven.
 use Rattle.model.proofs.Laws.{place-below}
 use native.Mathlib.Omega.{arith}
 use Rattle.model.specs.Calls.{counted}

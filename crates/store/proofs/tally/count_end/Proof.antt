@@ -1,4 +1,4 @@
--- Each way through `count_end` is a case of `tallyAfter`.
+-- Only a move that ends its call is counted.
 use Rattle.model.specs.Calls.{tallyAfter}
 use borrow.Author.Needs.{needs}
 use Rattle.store.proofs.tally.count_end.Statement.{statement}

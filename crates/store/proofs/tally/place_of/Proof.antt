@@ -1,4 +1,4 @@
--- Each way through `place_of` is a case of `placeOf`.
+-- Each arm of the match gives the definition's case.
 use Rattle.model.specs.Numbers.{placeOf}
 use borrow.Author.Needs.{needs}
 use Rattle.store.proofs.tally.place_of.Statement.{statement}

@@ -21,15 +21,38 @@ key-at-requires c κs = search needs
 
 returns-3 : tie.Need-returns-3
 unfolding ahead
-returns-3 c = λ vs n. simp (← c .before .before .before .before .next-at .ensures, ← c .before .key-at .ensures, ne-eqb _ _ (c .before .before .before .if1 .left), le-ltb _ _ (c .before .before .if2 .left), lt-ltb _ _ (c .if3 .taken))
+returns-3 c =
+    λ vs n. simp (
+      ← c .before .before .before .before .next-at .ensures,
+      ← c .before .key-at .ensures,
+      ne-eqb _ _ (c .before .before .before .if1 .left),
+      le-ltb _ _ (c .before .before .if2 .left),
+      lt-ltb _ _ (c .if3 .taken),
+    )
 
 returns-4 : tie.Need-returns-4
 unfolding ahead
-returns-4 c = λ vs n. simp (← c .before .before .before .before .before .next-at .ensures, ← c .before .before .key-at .ensures, ne-eqb _ _ (c .before .before .before .before .if1 .left), le-ltb _ _ (c .before .before .before .if2 .left), le-ltb _ _ (c .before .if3 .left), eq-eqb _ _ (c .if4 .taken))
+returns-4 c =
+    λ vs n. simp (
+      ← c .before .before .before .before .before .next-at .ensures,
+      ← c .before .before .key-at .ensures,
+      ne-eqb _ _ (c .before .before .before .before .if1 .left),
+      le-ltb _ _ (c .before .before .before .if2 .left),
+      le-ltb _ _ (c .before .if3 .left),
+      eq-eqb _ _ (c .if4 .taken),
+    )
 
 returns-5 : tie.Need-returns-5
 unfolding ahead
-returns-5 c = λ vs n. simp (← c .before .before .before .before .before .next-at .ensures, ← c .before .before .key-at .ensures, ne-eqb _ _ (c .before .before .before .before .if1 .left), le-ltb _ _ (c .before .before .before .if2 .left), le-ltb _ _ (c .before .if3 .left), ne-eqb _ _ (c .if4 .left))
+returns-5 c =
+    λ vs n. simp (
+      ← c .before .before .before .before .before .next-at .ensures,
+      ← c .before .before .key-at .ensures,
+      ne-eqb _ _ (c .before .before .before .before .if1 .left),
+      le-ltb _ _ (c .before .before .before .if2 .left),
+      le-ltb _ _ (c .before .if3 .left),
+      ne-eqb _ _ (c .if4 .left),
+    )
 
 pub ahead-spec : {M : Type 1} → statement M
 ahead-spec =

@@ -1,4 +1,4 @@
--- Each way through `nodes_full` is a case of `capacity`.
+-- The capacity is how often a record fits, less the one at 0.
 use Rattle.model.specs.Layout.{capacity}
 use borrow.Author.Needs.{needs}
 use Rattle.tables.proofs.nodes.nodes_full.Statement.{statement}

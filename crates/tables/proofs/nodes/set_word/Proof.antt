@@ -1,4 +1,4 @@
--- Each way through `set_word` is a case of `withWord`.
+-- The word written is the definition's, and stands in the table.
 use Rattle.model.specs.Layout.{withWord}
 use borrow.Author.Needs.{needs}
 use Rattle.tables.proofs.nodes.set_word.Statement.{statement}

@@ -1,4 +1,4 @@
--- Each way through `word_at` is a case of `word`.
+-- The word read is the definition's, and stands in the table.
 use Rattle.model.specs.Layout.{word}
 use borrow.Author.Needs.{needs}
 use Rattle.tables.proofs.nodes.word_at.Statement.{statement}

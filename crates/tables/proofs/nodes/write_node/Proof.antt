@@ -34,7 +34,10 @@ same-length c = search needs
 
 returns : tie.Need-returns
 unfolding withNode
-returns c = let a = c .before .before .before .before .before .args in simp (c .before .before .fill-node .ensures) (part-back (a .nodes .now) (nodeRecord (a .key) (a .version) (a .top) (a .next)) (16 * a .node) 16 refl (omega arith))
+returns c =
+    let a = c .before .before .before .before .before .args in
+    simp (c .before .before .fill-node .ensures)
+    (part-back (a .nodes .now) (nodeRecord (a .key) (a .version) (a .top) (a .next)) (16 * a .node) 16 refl (omega arith))
 
 pub write-node-spec : {M : Type 1} → statement M
 write-node-spec =

@@ -1,4 +1,4 @@
--- Each way through `field_at` is a case of `field`.
+-- The word read is the definition's, and stands in the table.
 use Rattle.model.specs.Layout.{field}
 use borrow.Author.Needs.{needs}
 use Rattle.tables.proofs.versions.field_at.Statement.{statement}

@@ -35,7 +35,10 @@ same-length c = search needs
 
 returns : tie.Need-returns
 unfolding withVersion
-returns c = let a = c .before .before .before .before .before .args in simp (c .before .before .fill-version .ensures) (part-back (a .versions .now) (a .value ∷ a .timestamp ∷ a .prev ∷ []) (3 * a .version) 3 refl (omega arith))
+returns c =
+    let a = c .before .before .before .before .before .args in
+    simp (c .before .before .fill-version .ensures)
+    (part-back (a .versions .now) (a .value ∷ a .timestamp ∷ a .prev ∷ []) (3 * a .version) 3 refl (omega arith))
 
 pub write-version-spec : {M : Type 1} → statement M
 write-version-spec =
