@@ -4,7 +4,7 @@
 set -euo pipefail
 root=$(cd "$(dirname "$0")/.." && pwd)
 program=$(realpath -e "${1:-$root/target/bin/sheet}")
-sheets=${2:-2000}
+sheets=${2:-3000}
 
 cd "$root/tests"
 cargo build --offline --release
