@@ -1,6 +1,5 @@
-// A sheet's run: what each command does to the store in its buffers, and the line that it prints.
+// One command of a sheet: what it does to the store in its buffers, and the line that it prints.
 mod calls;
 mod lend;
 pub mod perform;
-pub mod play;
 pub mod types;

@@ -1,10 +1,10 @@
 // Output: a page of lines at a time.
-ghost use Rattle.session.specs.Sheet.{Within};
+ghost use Rattle.player.specs.Sheet.{Within};
 use command::types::Line;
 use libc::STDOUT_FILENO;
 use model::types::Refusal;
-use session::play::play;
-use session::types::Played;
+use player::play::play;
+use player::types::Played;
 
 pub fn print_refusal(refusal: Refusal) {
     let mut out = [0u8; 128];

@@ -9,9 +9,9 @@ use crate::types::Piece;
 use crate::types::Run;
 use libc::STDIN_FILENO;
 use model::types::State;
-use session::play::rest;
-use session::types::Played;
-use session::types::Rest;
+use player::play::rest;
+use player::types::Played;
+use player::types::Rest;
 
 // The bytes from `from` up to `end`, moved to the front; the answer is how many they are.
 fn shift(bytes: &mut [u8], from: usize, end: usize) -> usize

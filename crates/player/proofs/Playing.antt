@@ -3,7 +3,7 @@ use Prim.Native.Nat.{ℕ, zero, suc, _-_, _<_}
 use mathlib.Core.List.{List}
 use mathlib.Core.Path.{_≡_, refl, sym, ap, _∙_}
 use native.Mathlib.Omega.{arith}
-use Rattle.session.specs.Sheet.{Playing, playOne, playFor}
+use Rattle.player.specs.Sheet.{Playing, playOne, playFor}
 
 made : (n m : ℕ) (bytes : List ℕ) (p q : Playing) → n ≡ suc m → q ≡ playOne bytes p → playFor m bytes q ≡ playFor n bytes p
 unfolding playFor

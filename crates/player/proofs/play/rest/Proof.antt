@@ -1,8 +1,8 @@
 -- What is found decides.
-use Rattle.session.specs.Sheet.{restOf, restBy}
+use Rattle.player.specs.Sheet.{restOf, restBy}
 use borrow.Author.Needs.{needs}
-use Rattle.session.proofs.play.rest.Statement.{statement}
-use Rattle.session.proofs.play.rest.Tie as tie
+use Rattle.player.proofs.play.rest.Statement.{statement}
+use Rattle.player.proofs.play.rest.Tie as tie
 
 decode-requires : tie.Need-decode-requires
 decode-requires c κs = search needs

@@ -2,11 +2,11 @@
 use mathlib.Core.Path.{sym, _∙_}
 use native.Mathlib.Omega.{arith}
 use borrow.Author.Tests.{not-true, not-false}
-use Rattle.session.specs.Sheet.{playOne}
-use Rattle.session.proofs.Whole.{whole-within}
+use Rattle.player.specs.Sheet.{playOne}
+use Rattle.player.proofs.Whole.{whole-within}
 use borrow.Author.Needs.{needs}
-use Rattle.session.proofs.play.play_one.Statement.{statement}
-use Rattle.session.proofs.play.play_one.Tie as tie
+use Rattle.player.proofs.play.play_one.Statement.{statement}
+use Rattle.player.proofs.play.play_one.Tie as tie
 
 has-room-requires : tie.Need-has-room-requires
 has-room-requires c κs = search needs

@@ -4,10 +4,10 @@ use native.Mathlib.Omega.{arith}
 use lib.ListN.{length}
 use borrow.Author.Needs.{needs}
 use borrow.Author.Tests.{not-true}
-use Rattle.session.specs.Sheet.{playing, Within, playFor, playOf}
-use Rattle.session.proofs.Playing.{again, still, none-left}
-use Rattle.session.proofs.play.play.Statement.{statement}
-use Rattle.session.proofs.play.play.Tie as tie
+use Rattle.player.specs.Sheet.{playing, Within, playFor, playOf}
+use Rattle.player.proofs.Playing.{again, still, none-left}
+use Rattle.player.proofs.play.play.Statement.{statement}
+use Rattle.player.proofs.play.play.Tie as tie
 
 abbrev Inv-loop : tie.InvT-loop
 Inv-loop bytes nodes₀ versions₀ tally₀ out₀ at₀ left₀ nodes versions tally out at left =

@@ -5,14 +5,14 @@ ghost use mathlib.Core.Path.{_≡_};
 ghost use lib.Dec.{leb};
 ghost use lib.ListN.{length};
 ghost use Rattle.command.specs.Lines.{room};
-ghost use Rattle.session.specs.Sheet.{playing, Within, playOne, playOf, restOf};
-use crate::perform::perform;
+ghost use Rattle.player.specs.Sheet.{playing, Within, playOne, playOf, restOf};
 use crate::types::Played;
 use crate::types::Rest;
 use command::decode::decode;
 use command::types::Decoded;
 use command::types::Line;
 use model::types::Refusal;
+use session::perform::perform;
 
 // A run that stands where it stood.
 fn stay(p: Played) -> Played

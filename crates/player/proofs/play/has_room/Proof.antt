@@ -5,8 +5,8 @@ use lib.ListN.{length}
 use borrow.Author.Tests.{le-leb, lt-leb}
 use Rattle.command.specs.Lines.{room}
 use borrow.Author.Needs.{needs}
-use Rattle.session.proofs.play.has_room.Statement.{statement}
-use Rattle.session.proofs.play.has_room.Tie as tie
+use Rattle.player.proofs.play.has_room.Statement.{statement}
+use Rattle.player.proofs.play.has_room.Tie as tie
 
 returns : tie.Need-returns
 returns c =

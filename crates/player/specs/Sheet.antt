@@ -10,10 +10,10 @@ use Rattle.command.specs.declared.types.Decoded.{Decoded}
 use Rattle.command.specs.declared.types.Decoded.the-variants.{Whole, Unknown, Short, End}
 use Rattle.command.specs.Commands.{commandFrom}
 use Rattle.command.specs.Lines.{Page, printOf, room}
-use Rattle.session.specs.declared.types.Played.{Played}
-use Rattle.session.specs.declared.types.Rest.{Rest}
-use Rattle.session.specs.declared.types.Rest.the-variants.{More, Over, Ends}
+use Rattle.player.specs.declared.types.Played.{Played}
+use Rattle.player.specs.declared.types.Rest.{Rest}
+use Rattle.player.specs.declared.types.Rest.the-variants.{More, Over, Ends}
 use Rattle.session.specs.Session.{Session, session, Done, performOf}
 
 -- a sheet being played: how many of its bytes were, and what is printed
 pub record Playing : Type 0 where
