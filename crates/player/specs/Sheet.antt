@@ -1,6 +1,6 @@
 -- Document 01, "Sheet program": commands one after another, from bytes that may not all be read yet, to a page that may fill up.
 use Prim.Native.Nat.{ℕ, zero, suc, _+_, _≤_}
-use mathlib.Core.Bool.{Bool, true, false}
+use mathlib.Core.Bool.{Bool}
 use mathlib.Core.List.{List}
 use lib.Dec.{leb}
 use lib.ListN.{length, drop}

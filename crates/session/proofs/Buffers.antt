@@ -1,6 +1,6 @@
 -- The table at the start of a buffer, however short the buffer is.
 use Prim.Native.Nat.{ℕ, zero, suc, min}
-use mathlib.Core.Path.{_≡_, refl, ap, _∙_}
+use mathlib.Core.Path.{_≡_, ap, _∙_}
 use mathlib.Core.List.{List, [], _∷_}
 use native.Mathlib.Nat.{suc-min-suc, min-zero, zero-min}
 use native.Mathlib.Omega.{arith}

@@ -3,7 +3,6 @@ use Prim.Native.Nat.{ℕ, _+_, _*_, _≤_}
 use mathlib.Core.Path.{_≡_}
 use mathlib.Core.Bool.{Bool, true, false, _||_}
 use mathlib.Core.List.{List, _++_}
-use lib.Dec.{ltb}
 use lib.ListN.{length, take, drop, replicate}
 use Rattle.model.specs.declared.types.Refusal.the-variants.{NotOpen}
 use Rattle.model.specs.declared.types.State.{State}

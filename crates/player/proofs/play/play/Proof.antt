@@ -40,8 +40,18 @@ returns : tie.Need-returns Inv-loop μ-loop
 unfolding playOf
 returns c =
     let e = c .before .before .before .before .before .before .before .before .before .before .play-one .ensures in
-    let l = c .before .before .before .before .before .before .before .before .before .before .before .before .before .before .before .before .loop .inv in
-    (still _ _ _ _ (e .0) (e .1 .0 (not-true _ (c .if1 .taken))) ∙ l .4, λ h. let w = e .1 .1 (record { read = l .5 h .read; next = omega (arith, l .3, l .5 h .next) }) in record { read = w .read; next = omega (arith, l .3, w .next) })
+    let l = c .before .before .before .before .before .before .before .before .before .before .before .before .before .before .before
+    .before .loop .inv in (
+      still _ _ _ _ (e .0) (e .1 .0 (not-true _ (c .if1 .taken))) ∙ l .4,
+      λ h. let w = e .1 .1 (record {
+        read = l .5 h .read;
+        next = omega (
+          arith,
+          l .3,
+          l .5 h .next,
+        );
+      }) in record { read = w .read; next = omega (arith, l .3, w .next) },
+    )
 
 sub-left : tie.Need-sub-left Inv-loop μ-loop
 sub-left c = search needs
@@ -52,8 +62,23 @@ loop-less c = search needs
 loop-again : tie.Need-loop-again Inv-loop μ-loop
 loop-again c =
     let e = c .before .before .before .before .before .before .before .before .before .before .play-one .ensures in
-    let l = c .before .before .before .before .before .before .before .before .before .before .before .before .before .before .before .before .loop .inv in
-    (search needs, search needs, search needs, search needs, again _ _ _ _ (c .before .before .before .before .before .before .before .before .before .before .before .before .before .before .before .loop-test .taken) (e .0) ∙ l .4, λ h. let w = e .1 .1 (record { read = l .5 h .read; next = omega (arith, l .3, l .5 h .next) }) in record { read = w .read; next = omega (arith, l .3, w .next) })
+    let l = c .before .before .before .before .before .before .before .before .before .before .before .before .before .before .before
+    .before .loop .inv in (
+      search needs,
+      search needs,
+      search needs,
+      search needs,
+      again _ _ _ _ (c .before .before .before .before .before .before .before .before .before .before .before .before .before
+          .before .before .loop-test .taken) (e .0) ∙ l .4,
+      λ h. let w = e .1 .1 (record {
+        read = l .5 h .read;
+        next = omega (
+          arith,
+          l .3,
+          l .5 h .next,
+        );
+      }) in record { read = w .read; next = omega (arith, l .3, w .next) },
+    )
 
 same-length-5 : tie.Need-same-length-5 Inv-loop μ-loop
 same-length-5 c = search needs

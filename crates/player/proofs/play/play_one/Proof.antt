@@ -19,7 +19,17 @@ same-length c = search needs
 
 returns : tie.Need-returns
 unfolding playOne
-returns c = (simp (c .stay .ensures, ← c .before .before .has-room .ensures, not-true (c .before .before .has-room .result) (c .before .if1 .taken)), (λ e. simp (c .stay .ensures), λ h. simp (c .stay .ensures) (record { read = h .read; next = h .next })))
+returns c = (
+  simp (
+    c .stay .ensures,
+    ← c .before .before .has-room .ensures,
+    not-true (c .before .before .has-room .result) (c .before .if1 .taken),
+  ),
+  (
+    λ e. simp (c .stay .ensures),
+    λ h. simp (c .stay .ensures) (record { read = h .read; next = h .next }),
+  ),
+)
 
 decode-requires : tie.Need-decode-requires
 decode-requires c κs = search needs
@@ -35,9 +45,19 @@ print-requires c κs = search needs
 
 add-t28 : tie.Need-add-t28
 add-t28 c =
-    let a = c .before .before .before .before .before .before .before .before .before .before .before .before .before .before .before .before .before .before .before .before .before .before .before .before .before .before .before .before .before .args in
-    let w = whole-within (a .bytes .now) (a .p .read) _ _ (sym (c .before .before .before .before .before .before .before .before .before .before .before .before .before .before .before .before .before .before .found .given .1) ∙ c .before .before .before .before .before .before .before .before .before .before .before .before .before .before .before .before .before .before .before .before .decode .ensures) in
-    omega (arith, c .before .before .before .before .before .before .before .before .before .before .before .before .before .before .before .before .before .before .before .before .before .before .before .before .before .before .before .before .before .good .1 .0 .0)
+    let a = c .before .before .before .before .before .before .before .before .before .before .before .before .before .before .before
+    .before .before .before .before .before .before .before .before .before .before .before .before .before .before .args in
+    let w = whole-within (a .bytes .now) (a .p .read) _ _ (sym
+    (c .before .before .before .before .before .before .before .before .before .before .before .before .before .before .before
+    .before .before .before .found .given .1)
+    ∙ c .before .before .before .before .before .before .before .before .before .before .before .before .before .before .before
+    .before .before .before .before .before .decode .ensures) in
+    omega (
+      arith,
+      c .before .before .before .before .before .before .before .before .before .before .before .before .before .before
+          .before .before .before .before .before .before .before .before .before .before .before .before .before .before .before .good
+          .1 .0 .0,
+    )
 
 enum-told : tie.Need-enum-told
 enum-told c = search needs
@@ -74,30 +94,95 @@ unfolding playOne
 returns-2 c =
     let e = c .before .before .before .before .before .before .before .before .before .before .before .before .perform .ensures in
     let f = c .before .before .before .print .ensures .0 in
-    let a = c .before .before .before .before .before .before .before .before .before .before .before .before .before .before .before .before .before .before .before .before .before .before .before .before .before .before .before .before .before .args in
-    let w = whole-within (a .bytes .now) (a .p .read) _ _ (sym (c .before .before .before .before .before .before .before .before .before .before .before .before .before .before .before .before .before .before .found .given .1) ∙ c .before .before .before .before .before .before .before .before .before .before .before .before .before .before .before .before .before .before .before .before .decode .ensures) in
-    (simp (← c .before .before .before .before .before .before .before .before .before .before .before .before .before .before .before .before .before .before .before .before .before .before .has-room .ensures, not-false (c .before .before .before .before .before .before .before .before .before .before .before .before .before .before .before .before .before .before .before .before .before .before .has-room .result) (c .before .before .before .before .before .before .before .before .before .before .before .before .before .before .before .before .before .before .before .before .before .if1 .left), ← c .before .before .before .before .before .before .before .before .before .before .before .before .before .before .before .before .before .before .before .before .decode .ensures, c .before .before .before .before .before .before .before .before .before .before .before .before .before .before .before .before .before .before .found .given .1, ← e, ← f), (λ h. cc, λ h. record { read = omega (arith, h .read); next = c .before .before .before .print .ensures .1 (h .next) }))
+    let a = c .before .before .before .before .before .before .before .before .before .before .before .before .before .before .before
+    .before .before .before .before .before .before .before .before .before .before .before .before .before .before .args in
+    let w = whole-within (a .bytes .now) (a .p .read) _ _ (sym
+    (c .before .before .before .before .before .before .before .before .before .before .before .before .before .before .before
+    .before .before .before .found .given .1)
+    ∙ c .before .before .before .before .before .before .before .before .before .before .before .before .before .before .before
+    .before .before .before .before .before .decode .ensures) in (
+      simp (
+        ← c .before .before .before .before .before .before .before .before .before .before .before .before .before .before .before
+            .before .before .before .before .before .before .before .has-room .ensures,
+        not-false (c .before .before .before .before .before .before .before .before .before .before .before .before .before .before
+            .before .before .before .before .before .before .before .before .has-room .result)
+            (c .before .before .before .before .before .before .before .before .before .before .before .before .before .before .before
+            .before .before .before .before .before .before .if1 .left),
+        ← c .before .before .before .before .before .before .before .before .before .before .before .before .before .before .before
+            .before .before .before .before .before .decode .ensures,
+        c .before .before .before .before .before .before .before .before .before .before .before .before .before .before .before
+            .before .before .before .found .given .1,
+        ← e,
+        ← f,
+      ),
+      (
+        λ h. cc,
+        λ h. record {
+          read = omega (
+            arith,
+            h .read,
+          );
+          next = c .before .before .before .print .ensures .1 (h .next);
+        },
+      ),
+    )
 
 same-length-6 : tie.Need-same-length-6
 same-length-6 c = search needs
 
 returns-3 : tie.Need-returns-3
 unfolding playOne
-returns-3 c = (simp (c .stay2 .ensures, ← c .before .before .before .before .before .has-room .ensures, not-false (c .before .before .before .before .before .has-room .result) (c .before .before .before .before .if1 .left), ← c .before .before .before .decode .ensures, c .before .enum-told .given .1), (λ e. simp (c .stay2 .ensures), λ h. simp (c .stay2 .ensures) (record { read = h .read; next = h .next })))
+returns-3 c = (
+  simp (
+    c .stay2 .ensures,
+    ← c .before .before .before .before .before .has-room .ensures,
+    not-false (c .before .before .before .before .before .has-room .result) (c .before .before .before .before .if1 .left),
+    ← c .before .before .before .decode .ensures,
+    c .before .enum-told .given .1,
+  ),
+  (
+    λ e. simp (c .stay2 .ensures),
+    λ h. simp (c .stay2 .ensures) (record { read = h .read; next = h .next }),
+  ),
+)
 
 same-length-7 : tie.Need-same-length-7
 same-length-7 c = search needs
 
 returns-4 : tie.Need-returns-4
 unfolding playOne
-returns-4 c = (simp (c .stay3 .ensures, ← c .before .before .before .before .before .has-room .ensures, not-false (c .before .before .before .before .before .has-room .result) (c .before .before .before .before .if1 .left), ← c .before .before .before .decode .ensures, c .before .enum-told2 .given .1), (λ e. simp (c .stay3 .ensures), λ h. simp (c .stay3 .ensures) (record { read = h .read; next = h .next })))
+returns-4 c = (
+  simp (
+    c .stay3 .ensures,
+    ← c .before .before .before .before .before .has-room .ensures,
+    not-false (c .before .before .before .before .before .has-room .result) (c .before .before .before .before .if1 .left),
+    ← c .before .before .before .decode .ensures,
+    c .before .enum-told2 .given .1,
+  ),
+  (
+    λ e. simp (c .stay3 .ensures),
+    λ h. simp (c .stay3 .ensures) (record { read = h .read; next = h .next }),
+  ),
+)
 
 same-length-8 : tie.Need-same-length-8
 same-length-8 c = search needs
 
 returns-5 : tie.Need-returns-5
 unfolding playOne
-returns-5 c = (simp (c .stay4 .ensures, ← c .before .before .before .before .before .has-room .ensures, not-false (c .before .before .before .before .before .has-room .result) (c .before .before .before .before .if1 .left), ← c .before .before .before .decode .ensures, c .before .enum-told3 .given .1), (λ e. simp (c .stay4 .ensures), λ h. simp (c .stay4 .ensures) (record { read = h .read; next = h .next })))
+returns-5 c = (
+  simp (
+    c .stay4 .ensures,
+    ← c .before .before .before .before .before .has-room .ensures,
+    not-false (c .before .before .before .before .before .has-room .result) (c .before .before .before .before .if1 .left),
+    ← c .before .before .before .decode .ensures,
+    c .before .enum-told3 .given .1,
+  ),
+  (
+    λ e. simp (c .stay4 .ensures),
+    λ h. simp (c .stay4 .ensures) (record { read = h .read; next = h .next }),
+  ),
+)
 
 pub play-one-spec : {M : Type 1} → statement M
 play-one-spec =

@@ -24,7 +24,12 @@ of-inspect-requires : tie.Need-of-inspect-requires
 of-inspect-requires c κs = search needs
 
 returns : tie.Need-returns
-returns c = simp (c .of-inspect .ensures, c .before .inspect .ensures, c .before .before .before .before .held2 .ensures .lent, c .before .before .before .before .before .held .ensures .lent)
+returns c = simp (
+  c .of-inspect .ensures,
+  c .before .inspect .ensures,
+  c .before .before .before .before .held2 .ensures .lent,
+  c .before .before .before .before .before .held .ensures .lent,
+)
 
 pub inspect-on-spec : {M : Type 1} → statement M
 inspect-on-spec =

@@ -24,7 +24,12 @@ of-look-requires : tie.Need-of-look-requires
 of-look-requires c κs = search needs
 
 returns : tie.Need-returns
-returns c = simp (c .of-look .ensures, c .before .look .ensures, c .before .before .before .before .held2 .ensures .lent, c .before .before .before .before .before .held .ensures .lent)
+returns c = simp (
+  c .of-look .ensures,
+  c .before .look .ensures,
+  c .before .before .before .before .held2 .ensures .lent,
+  c .before .before .before .before .before .held .ensures .lent,
+)
 
 pub look-on-spec : {M : Type 1} → statement M
 look-on-spec =

@@ -45,9 +45,11 @@ same-length-3 c = search needs
 returns : tie.Need-returns
 unfolding callOn openOn
 returns c =
-    let n = c .before .before .before .before .before .before .before .before .before .before .before .before .before .before .before .asked .ensures in
+    let n = c .before .before .before .before .before .before .before .before .before .before .before .before .before .before .before
+    .asked .ensures in
     let m = c .before .before .before .before .before .before .before .before .before .before .before .before .before .asked2 .ensures in
-    let e = simp (n .lent, m .lent) at (c .before .before .before .before .before .before .before .before .before .before .«open» .ensures) in
+    let e = simp (n .lent, m .lent) at (c .before .before .before .before .before .before .before .before .before .before .«open»
+    .ensures) in
     simp (← e, c .of-open .ensures, c .before .before .before .before .clear .ensures, n .left, m .left)
 
 pub open-on-spec : {M : Type 1} → statement M

@@ -42,7 +42,8 @@ same-length-3 c = search needs
 returns : tie.Need-returns
 unfolding callOn
 returns c =
-    let n = c .before .before .before .before .before .before .before .before .before .before .before .before .before .before .held .ensures in
+    let n = c .before .before .before .before .before .before .before .before .before .before .before .before .before .before .held
+    .ensures in
     let m = c .before .before .before .before .before .before .before .before .before .before .before .before .held2 .ensures in
     let e = simp (n .lent, m .lent) at (c .before .before .before .before .before .before .before .before .step .ensures) in
     simp (← e, c .of-step .ensures, n .left, m .left)

@@ -50,7 +50,10 @@ same-length-3 : tie.Need-same-length-3
 same-length-3 c = search needs
 
 returns : tie.Need-returns
-returns c = simp (c .before .before .before .before .before .before .open-on .ensures, c .before .before .before .before .before .before .before .before .before .before .before .command .given .1)
+returns c = simp (
+  c .before .before .before .before .before .before .open-on .ensures,
+  c .before .before .before .before .before .before .before .before .before .before .before .command .given .1,
+)
 
 same-length-4 : tie.Need-same-length-4
 same-length-4 c = search needs
@@ -82,7 +85,10 @@ same-length-10 : tie.Need-same-length-10
 same-length-10 c = search needs
 
 returns-4 : tie.Need-returns-4
-returns-4 c = simp (c .before .before .before .before .before .before .step-on .ensures, c .before .before .before .before .before .before .before .before .before .before .before .command4 .given .1)
+returns-4 c = simp (
+  c .before .before .before .before .before .before .step-on .ensures,
+  c .before .before .before .before .before .before .before .before .before .before .before .command4 .given .1,
+)
 
 same-length-11 : tie.Need-same-length-11
 same-length-11 c = search needs

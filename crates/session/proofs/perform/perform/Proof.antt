@@ -21,7 +21,11 @@ same-length-3 c = search needs
 
 returns : tie.Need-returns
 unfolding performOf
-returns c = simp (c .before .before .before .before .before .before .call .ensures, ← c .before .before .before .before .before .before .before .before .before .before .before .allowed .ensures, c .before .before .before .before .before .before .before .before .before .before .if1 .taken)
+returns c = simp (
+  c .before .before .before .before .before .before .call .ensures,
+  ← c .before .before .before .before .before .before .before .before .before .before .before .allowed .ensures,
+  c .before .before .before .before .before .before .before .before .before .before .if1 .taken,
+)
 
 returns-2 : tie.Need-returns-2
 unfolding performOf

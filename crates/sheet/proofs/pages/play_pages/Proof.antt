@@ -36,21 +36,27 @@ same-length-4 c = search needs
 
 returns : tie.Need-returns Inv-loop μ-loop
 returns c =
-    let l = c .before .before .before .before .before .before .before .before .before .before .before .before .before .before .before .loop .inv in
-    let w = c .before .before .before .before .before .before .before .before .before .play .ensures .1 (record { read = l .4 .read; next = omega (arith, l .3, l .4 .next) }) in
+    let l = c .before .before .before .before .before .before .before .before .before .before .before .before .before .before .before
+    .loop .inv in
+    let w = c .before .before .before .before .before .before .before .before .before .play .ensures .1
+    (record { read = l .4 .read; next = omega (arith, l .3, l .4 .next) }) in
     record { read = w .read; next = omega arith }
 
 slice-reshare-prefix-write-all : tie.Need-slice-reshare-prefix-write-all Inv-loop μ-loop
 slice-reshare-prefix-write-all c =
-    let l = c .before .before .before .before .before .before .before .before .before .before .before .before .before .before .before .loop .inv in
-    let w = c .before .before .before .before .before .before .before .before .before .play .ensures .1 (record { read = l .4 .read; next = omega (arith, l .3, l .4 .next) }) in
+    let l = c .before .before .before .before .before .before .before .before .before .before .before .before .before .before .before
+    .loop .inv in
+    let w = c .before .before .before .before .before .before .before .before .before .play .ensures .1
+    (record { read = l .4 .read; next = omega (arith, l .3, l .4 .next) }) in
     let k = c .before .before .before .before .before .before .before .before .before .play .kept in
     search (needs, w .next)
 
 slice-aggregate-write-all : tie.Need-slice-aggregate-write-all Inv-loop μ-loop
 slice-aggregate-write-all c =
-    let l = c .before .before .before .before .before .before .before .before .before .before .before .before .before .before .before .before .loop .inv in
-    let w = c .before .before .before .before .before .before .before .before .before .before .play .ensures .1 (record { read = l .4 .read; next = omega (arith, l .3, l .4 .next) }) in
+    let l = c .before .before .before .before .before .before .before .before .before .before .before .before .before .before .before
+    .before .loop .inv in
+    let w = c .before .before .before .before .before .before .before .before .before .before .play .ensures .1
+    (record { read = l .4 .read; next = omega (arith, l .3, l .4 .next) }) in
     let k = c .before .before .before .before .before .before .before .before .before .before .play .kept in
     sym (length-take-le _ _ (omega (arith, w .next)))
 
@@ -71,8 +77,10 @@ same-length-8 c = search needs
 
 returns-2 : tie.Need-returns-2 Inv-loop μ-loop
 returns-2 c =
-    let l = c .before .before .before .before .before .before .before .before .before .before .before .before .before .before .before .before .before .before .loop .inv in
-    let w = c .before .before .before .before .before .before .before .before .before .before .before .before .play .ensures .1 (record { read = l .4 .read; next = omega (arith, l .3, l .4 .next) }) in
+    let l = c .before .before .before .before .before .before .before .before .before .before .before .before .before .before .before
+    .before .before .before .loop .inv in
+    let w = c .before .before .before .before .before .before .before .before .before .before .before .before .play .ensures .1
+    (record { read = l .4 .read; next = omega (arith, l .3, l .4 .next) }) in
     record { read = w .read; next = omega arith }
 
 sub-pages : tie.Need-sub-pages Inv-loop μ-loop
@@ -83,8 +91,10 @@ loop-less c = search needs
 
 loop-again : tie.Need-loop-again Inv-loop μ-loop
 loop-again c =
-    let l = c .before .before .before .before .before .before .before .before .before .before .before .before .before .before .before .before .before .before .loop .inv in
-    let w = c .before .before .before .before .before .before .before .before .before .before .before .before .play .ensures .1 (record { read = l .4 .read; next = omega (arith, l .3, l .4 .next) }) in
+    let l = c .before .before .before .before .before .before .before .before .before .before .before .before .before .before .before
+    .before .before .before .loop .inv in
+    let w = c .before .before .before .before .before .before .before .before .before .before .before .before .play .ensures .1
+    (record { read = l .4 .read; next = omega (arith, l .3, l .4 .next) }) in
     (search needs, search needs, search needs, search needs, record { read = w .read; next = omega arith })
 
 same-length-9 : tie.Need-same-length-9 Inv-loop μ-loop

@@ -16,7 +16,8 @@ array-share-prefix-out : tie.Need-array-share-prefix-out
 array-share-prefix-out c = let k = c .before .print .kept in let w = c .before .print .ensures .1 (omega arith) in search needs
 
 slice-aggregate-write-all : tie.Need-slice-aggregate-write-all
-slice-aggregate-write-all c = let k = c .before .before .print .kept in let w = c .before .before .print .ensures .1 (omega arith) in sym (length-take-le _ _ (omega arith))
+slice-aggregate-write-all c = let k = c .before .before .print .kept in let w = c .before .before .print .ensures .1
+    (omega arith) in sym (length-take-le _ _ (omega arith))
 
 write-all-requires : tie.Need-write-all-requires
 write-all-requires c κs = search needs

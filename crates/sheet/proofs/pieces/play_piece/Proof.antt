@@ -35,7 +35,8 @@ over-requires-2 : tie.Need-over-requires-2
 over-requires-2 c κs = search needs
 
 same-length-2 : tie.Need-same-length-2
-same-length-2 c = let k = c .before .before .before .before .before .before .before .before .before .before .before .before .before .before .before .before .before .before .before .before .read-more .kept in search needs
+same-length-2 c = let k = c .before .before .before .before .before .before .before .before .before .before .before .before .before
+    .before .before .before .before .before .before .before .read-more .kept in search needs
 
 same-length-3 : tie.Need-same-length-3
 same-length-3 c = search needs
@@ -54,13 +55,18 @@ returns-2 c = search needs
 
 settle-requires : tie.Need-settle-requires
 settle-requires c κs =
-    let k = c .before .before .before .before .before .before .before .before .before .before .before .before .before .before .before .before .before .before .before .before .read-more .kept in
-    let e = c .before .before .before .before .before .before .before .before .before .before .before .before .before .before .before .before .before .before .before .before .read-more .ensures in
-    let w = simp length-take at (c .before .before .before .before .before .before .before .before .before .before .before .play-pages .ensures .read) in
+    let k = c .before .before .before .before .before .before .before .before .before .before .before .before .before .before .before
+    .before .before .before .before .before .read-more .kept in
+    let e = c .before .before .before .before .before .before .before .before .before .before .before .before .before .before .before
+    .before .before .before .before .before .read-more .ensures in
+    let w = simp length-take at (c .before .before .before .before .before .before .before .before .before .before .before .play-pages
+    .ensures .read) in
     (omega (arith, w), omega arith)
 
 same-length-7 : tie.Need-same-length-7
-same-length-7 c = let k = c .before .before .before .before .before .before .before .before .before .before .before .before .before .before .before .before .before .before .before .before .before .before .before .read-more .kept in let l = c .before .before .settle .kept in search needs
+same-length-7 c = let k = c .before .before .before .before .before .before .before .before .before .before .before .before .before
+    .before .before .before .before .before .before .before .before .before .before .read-more .kept in let l = c .before .before
+    .settle .kept in search needs
 
 same-length-8 : tie.Need-same-length-8
 same-length-8 c = search needs
@@ -75,7 +81,9 @@ same-length-11 : tie.Need-same-length-11
 same-length-11 c = search needs
 
 returns-3 : tie.Need-returns-3
-returns-3 c = let k = c .before .before .before .before .before .before .before .before .before .before .before .before .before .before .before .before .before .before .before .before .before .before .before .read-more .kept in let l = c .before .before .settle .ensures in omega arith
+returns-3 c = let k = c .before .before .before .before .before .before .before .before .before .before .before .before .before
+    .before .before .before .before .before .before .before .before .before .before .read-more .kept in let l = c .before .before
+    .settle .ensures in omega arith
 
 pub play-piece-spec : {M : Type 1} → statement M
 play-piece-spec =

@@ -3,7 +3,6 @@ use Prim.Native.Nat.{_-_, _≤_}
 use mathlib.Core.Path.{_≡_, refl}
 use native.Mathlib.Omega.{arith}
 use lib.ListN.{length, length-set}
-use lib.Seq.{paste-zero}
 use borrow.Author.Needs.{needs}
 use Rattle.sheet.proofs.Shifting.{moved, one-more}
 use Rattle.sheet.proofs.pieces.shift.Statement.{statement}
@@ -46,7 +45,10 @@ same-length : tie.Need-same-length Inv-loop μ-loop
 same-length c = search needs
 
 returns : tie.Need-returns Inv-loop μ-loop
-returns c = let e : c .before .loop .n ≡ c .before .before .args .end - c .before .before .args .from = omega arith in (refl, rw (← e) (c .before .loop .inv .2))
+returns c = let e : c .before .loop .n ≡ c .before .before .args .end - c .before .before .args .from = omega arith in (
+  refl,
+  rw (← e) (c .before .loop .inv .2),
+)
 
 pub shift-spec : {M : Type 1} → statement M
 shift-spec =
