@@ -1,0 +1,194 @@
+-- Words that are a state are the words of the state that they are decoded to, and a state is decoded from its words.
+use Prim.Native.Nat.{ℕ, zero, suc, _+_, _*_, _-_, _≤_, _<_}
+use mathlib.Core.Bool.{Bool, true, false, _&&_, and-eq-true-iff}
+use mathlib.Core.List.{List, [], _∷_, _++_, append-assoc}
+use mathlib.Core.Path.{_≡_, refl, sym, ap, _∙_}
+use native.Mathlib.Omega.{arith}
+use lib.Dec.{eqb, ltb}
+use lib.ListN.{length, getD, set, take, drop, length-drop, take-append-drop}
+use lib.Seq.{length-take-le, take-all, drop-cons, drop-drop, take-add}
+use borrow.Author.Tests.{ltb-true, eqb-true, eqb-false}
+use Rattle.model.specs.declared.types.Counts.{Counts}
+use Rattle.model.specs.declared.types.Process.{Process}
+use Rattle.model.specs.Choice.{if_then_else_}
+use Rattle.model.specs.Layout.{limits}
+use Rattle.model.specs.Numbers.{placeOf}
+use Rattle.model.specs.State.{noProcess, processAt, withEvent}
+use Rattle.words.specs.Numbers.{kindNumber, kindOf, phaseNumber, phaseOf, answerOf}
+use Rattle.words.specs.Layout.{sizes, processWords, allWords, stateWords, processFrom, allFrom, stateFrom, knownProcess, allKnown, isState, bit}
+
+-- ---- numbers
+
+-- a test that holds of every number below k, computed once
+abbrev allBelow : (k : ℕ) → (ℕ → Bool) → Bool
+allBelow zero f = true
+allBelow (suc k) f = f k && allBelow k f
+
+below : (k : ℕ) (f : ℕ → Bool) → allBelow k f ≡ true → (n : ℕ) → n < k → f n ≡ true
+below zero f t n h = let z : _≡_ {A = ℕ} 0 1 = omega (arith, h) in cc
+below (suc k) f t n h = cases (below k f (and-eq-true-iff (f k) (allBelow k f) .0 t .1) n) (eqb n k) refl
+  where
+    cases : (n < k → f n ≡ true) → (b : Bool) → eqb n k ≡ b → f n ≡ true
+    cases smaller true e = ap f (eqb-true n k e) ∙ and-eq-true-iff (f k) (allBelow k f) .0 t .0
+    cases smaller false e = smaller (omega (arith, h, eqb-false n k e))
+
+kind-back : (n : ℕ) → n < 3 → kindNumber (kindOf n) ≡ n
+kind-back n h = eqb-true _ _ (below 3 (λ n. eqb (kindNumber (kindOf n)) n) refl n h)
+
+phase-back : (n : ℕ) → n < 9 → phaseNumber (phaseOf n) ≡ n
+phase-back n h = eqb-true _ _ (below 9 (λ n. eqb (phaseNumber (phaseOf n)) n) refl n h)
+
+answer-back : (n : ℕ) → n < 7 → placeOf (answerOf n) ≡ n
+unfolding placeOf
+answer-back n h = eqb-true _ _ (below 7 (λ n. eqb (placeOf (answerOf n)) n) refl n h)
+
+-- ---- one process
+
+-- k words from a position on, by name
+abbrev pub heads : (k at : ℕ) → List ℕ → List ℕ
+heads zero at w = []
+heads (suc k) at w = getD w at 0 ∷ heads k (suc at) w
+
+pub heads-are : (k at : ℕ) (w : List ℕ) → at + k ≤ length w → drop at w ≡ heads k at w ++ drop (at + k) w
+heads-are zero at w h = let e : at ≡ at + 0 = omega arith in ap (λ n. drop n w) e
+heads-are (suc k) at w h =
+    let e : suc at + k ≡ at + suc k = omega arith in
+    drop-cons w at 0 (omega (arith, h))
+    ∙ ap (λ r. getD w at 0 ∷ r) (heads-are k (suc at) w (omega (arith, h)) ∙ ap (λ n. heads k (suc at) w ++ drop n w) e)
+
+known-facts : (w : List ℕ) → knownProcess w ≡ true → (getD w 0 0 < 3) × (getD w 6 0 < 9) × (getD w 10 0 < 7)
+known-facts w k =
+    let a = and-eq-true-iff (ltb (getD w 0 0) 3 && ltb (getD w 6 0) 9) (ltb (getD w 10 0) 7) .0 k in
+    let b = and-eq-true-iff (ltb (getD w 0 0) 3) (ltb (getD w 6 0) 9) .0 (a .0) in
+    (ltb-true _ _ (b .0), ltb-true _ _ (b .1), ltb-true _ _ (a .1))
+
+pub process-back : (w : List ℕ) → length w ≡ sizes .process → knownProcess w ≡ true → processWords (processFrom w) ≡ w
+process-back w h k =
+    let f = known-facts w k in
+    let six : length (drop 12 w) ≤ 6 = rw length-drop (omega (arith, h)) in
+    simp (kind-back (getD w 0 0) (f .0), phase-back (getD w 6 0) (f .1), answer-back (getD w 10 0) (f .2), take-all 6 (drop 12 w) six)
+    (sym (heads-are 12 0 w (omega (arith, h))))
+
+-- ---- all processes
+
+-- the first is known, and so are the others
+known-rest : (n : ℕ) (w : List ℕ) → allKnown (suc n) w ≡ true
+    → (knownProcess (take (sizes .process) w) ≡ true) × (allKnown n (drop (sizes .process) w) ≡ true)
+unfolding allKnown
+known-rest n w = cases (knownProcess (take 18 w))
+  where
+    cases : (b : Bool) → (if b then allKnown n (drop 18 w) else false) ≡ true → (b ≡ true) × (allKnown n (drop 18 w) ≡ true)
+    cases true k = (refl, k)
+    cases false k = (k, cc)
+
+first-back : (n : ℕ) (w : List ℕ) → sizes .process * suc n ≡ length w → knownProcess (take (sizes .process) w) ≡ true
+    → processWords (processFrom (take (sizes .process) w)) ≡ take (sizes .process) w
+first-back n w h k = process-back (take 18 w) (length-take-le 18 w (omega (arith, h))) k
+
+rest-long : (n : ℕ) (w : List ℕ) → sizes .process * suc n ≡ length w → sizes .process * n ≡ length (drop (sizes .process) w)
+rest-long n w h = rw length-drop (omega (arith, h))
+
+all-back : (n : ℕ) (w : List ℕ) → sizes .process * n ≡ length w → allKnown n w ≡ true → allWords (allFrom n w) ≡ w
+unfolding allFrom allWords
+all-back zero [] h k = refl
+all-back zero (x ∷ w) h k = let z : _≡_ {A = ℕ} 0 1 = omega (arith, h) in cc
+all-back (suc n) w h k =
+    let f = known-rest n w k in
+    ap (λ a. a ++ allWords (allFrom n (drop 18 w))) (first-back n w h (f .0))
+    ∙ ap (λ b. take 18 w ++ b) (all-back n (drop 18 w) (rest-long n w h) (f .1))
+    ∙ take-append-drop 18 w
+
+-- ---- the state
+
+bit-back : (n : ℕ) → n < 2 → bit (eqb n 1) ≡ n
+bit-back n h = eqb-true _ _ (below 2 (λ n. eqb (bit (eqb n 1)) n) refl n h)
+
+-- what the test tells
+pub record Facts (w : List ℕ) : Type 0 where
+  pub long : length w ≡ sizes .state
+  pub version : getD w 0 0 ≡ sizes .version
+  pub opened : getD w 1 0 < 2
+  pub known : allKnown 8 (drop 9 w) ≡ true
+
+pub state-facts : (w : List ℕ) → isState w ≡ true → Facts w
+unfolding isState
+state-facts w k =
+    let a = and-eq-true-iff (eqb (length w) 153 && eqb (getD w 0 0) 1 && ltb (getD w 1 0) 2) (allKnown 8 (drop 9 w)) .0 k in
+    let b = and-eq-true-iff (eqb (length w) 153 && eqb (getD w 0 0) 1) (ltb (getD w 1 0) 2) .0 (a .0) in
+    let c = and-eq-true-iff (eqb (length w) 153) (eqb (getD w 0 0) 1) .0 (b .0) in
+    record { long = eqb-true _ _ (c .0); version = eqb-true _ _ (c .1); opened = ltb-true _ _ (b .1); known = a .1 }
+
+pub state-back : (w : List ℕ) → isState w ≡ true → stateWords (stateFrom w) ≡ w
+unfolding stateWords stateFrom
+state-back w k =
+    let f = state-facts w k in
+    let left : 18 * 8 ≡ length (drop 9 w) = rw length-drop (omega (arith, f .long)) in
+    simp (bit-back (getD w 1 0) (f .opened), all-back 8 (drop 9 w) left (f .known))
+    (ap (λ v. v ∷ heads 8 1 w ++ drop 9 w) (sym (f .version)) ∙ sym (heads-are 9 0 w (omega (arith, f .long))))
+
+-- ---- one process of the state
+
+all-at : (n i : ℕ) (w : List ℕ) (d : Process) → i < n → getD (allFrom n w) i d ≡ processFrom (take (sizes .process) (drop
+    (sizes .process * i) w))
+unfolding allFrom
+all-at zero i w d h = let z : _≡_ {A = ℕ} 0 1 = omega (arith, h) in cc
+all-at (suc n) zero w d h = refl
+all-at (suc n) (suc i) w d h =
+    let e : 18 + 18 * i ≡ 18 * suc i = omega arith in
+    all-at n i (drop 18 w) d (omega (arith, h))
+    ∙ ap (λ r. processFrom (take 18 r)) (drop-drop (18 * i) 18 w ∙ ap (λ k. drop k w) e)
+
+-- where a process begins
+abbrev pub start : ℕ → ℕ
+start i = sizes .head + sizes .process * i
+
+pub process-at : (w : List ℕ) (i : ℕ) → i < limits .processes → processAt (stateFrom w) i ≡ processFrom (take (sizes .process) (drop
+    (start i) w))
+unfolding stateFrom
+process-at w i h = all-at 8 i (drop 9 w) noProcess h ∙ ap (λ r. processFrom (take 18 r)) (drop-drop (18 * i) 9 w)
+
+-- another process in its place
+all-set : (n i : ℕ) (w : List ℕ) (p : Process) → i < n → sizes .process * n ≡ length w → allKnown n w ≡ true
+    → allWords (set (allFrom n w) i p) ≡ take (18 * i) w ++ (processWords p ++ drop (18 * i + 18) w)
+unfolding allFrom allWords
+all-set zero i w p h l k = let z : _≡_ {A = ℕ} 0 1 = omega (arith, h) in cc
+all-set (suc n) zero w p h l k = ap (λ r. processWords p ++ r) (all-back n (drop 18 w) (rest-long n w l) (known-rest n w k .1))
+all-set (suc n) (suc i) w p h l k =
+    let f = known-rest n w k in
+    let e : 18 + 18 * i ≡ 18 * suc i = omega arith in
+    let d : 18 + (18 * i + 18) ≡ 18 * suc i + 18 = omega arith in
+    ap (λ a. a ++ allWords (set (allFrom n (drop 18 w)) i p)) (first-back n w l (f .0))
+    ∙ ap (λ b. take 18 w ++ b) (all-set n i (drop 18 w) p (omega (arith, h)) (rest-long n w l) (f .1))
+    ∙ sym (append-assoc (take 18 w) (take (18 * i) (drop 18 w)) (processWords p ++ drop (18 * i + 18) (drop 18 w)))
+    ∙ ap (λ a. a ++ (processWords p ++ drop (18 * i + 18) (drop 18 w))) (sym (take-add 18 (18 * i) w) ∙ ap (λ k. take k w) e)
+    ∙ ap (λ b. take (18 * suc i) w ++ (processWords p ++ b)) (drop-drop (18 * i + 18) 18 w ∙ ap (λ k. drop k w) d)
+
+-- ---- an event
+
+-- the words with another process at a place, and the counts that its event leaves
+abbrev pub putProcess : (w : List ℕ) (i : ℕ) (part : List ℕ) → List ℕ
+putProcess w i part = take (start i) w ++ (part ++ drop (start i + sizes .process) w)
+
+abbrev pub putEvent : (w : List ℕ) (tick : ℕ) → Counts → List ℕ
+putEvent w tick counts = set (set (set w 4 tick) 7 (counts .nodes)) 8 (counts .versions)
+
+-- the head and what lies behind it
+behind : (w : List ℕ) (i : ℕ) (part : List ℕ) → sizes .head ≤ length w
+    → putProcess w i part ≡ heads 9 0 w ++ (take (18 * i) (drop 9 w) ++ (part ++ drop (18 * i + 18) (drop 9 w)))
+behind w i part h =
+    let e : 9 + (18 * i + 18) ≡ start i + 18 = omega arith in
+    let nine : take 9 w ≡ heads 9 0 w =
+    ap (take 9) (heads-are 9 0 w (omega (arith, h))) in
+    ap (λ a. a ++ (part ++ drop (start i + 18) w)) (take-add 9 (18 * i) w)
+    ∙ append-assoc (take 9 w) (take (18 * i) (drop 9 w)) (part ++ drop (start i + 18) w)
+    ∙ ap (λ a. a ++ (take (18 * i) (drop 9 w) ++ (part ++ drop (start i + 18) w))) nine
+    ∙ ap (λ b. heads 9 0 w ++ (take (18 * i) (drop 9 w) ++ (part ++ b))) (sym (drop-drop (18 * i + 18) 9 w ∙ ap (λ k. drop k w) e))
+
+pub event-words : (w : List ℕ) (i : ℕ) (p : Process) (counts : Counts) → isState w ≡ true → i < limits .processes
+    → putEvent (putProcess w i (processWords p)) (stateFrom w .events + 1) counts ≡ stateWords (withEvent (stateFrom w) i counts p)
+unfolding stateFrom stateWords
+event-words w i p counts k h =
+    let f = state-facts w k in
+    let left : 18 * 8 ≡ length (drop 9 w) = rw length-drop (omega (arith, f .long)) in
+    ap (λ v. putEvent v (getD w 4 0 + 1) counts) (behind w i (processWords p) (omega (arith, f .long)))
+    ∙ simp (f .version, bit-back (getD w 1 0) (f .opened), all-set 8 i (drop 9 w) p h left (f .known))

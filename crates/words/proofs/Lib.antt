@@ -1,0 +1,4 @@
+pub mod Past
+pub mod Known
+pub mod Laws
+pub mod Applied

@@ -1,0 +1,94 @@
+-- The state as words, and words as a state. Word 0 is the layout's own number; then whether the store is open, processes,
+-- limit, events, lengths of both tables, nodes and versions in use; then eight processes of eighteen words each.
+use Prim.Native.Nat.{ℕ, zero, suc, _+_}
+use mathlib.Core.Bool.{Bool, true, false, _&&_}
+use mathlib.Core.List.{List, [], _∷_, _++_}
+use lib.Dec.{eqb, ltb}
+use lib.ListN.{length, getD, take, drop}
+use Rattle.model.specs.declared.types.State.{State}
+use Rattle.model.specs.declared.types.Call.{Call}
+use Rattle.model.specs.declared.types.Cursor.{Cursor}
+use Rattle.model.specs.declared.types.Effect.{Effect}
+use Rattle.model.specs.declared.types.Process.{Process}
+use Rattle.model.specs.Choice.{if_then_else_}
+use Rattle.model.specs.Layout.{levels, limits}
+use Rattle.model.specs.Numbers.{placeOf}
+use Rattle.words.specs.declared.types.Sizes.{Sizes}
+use Rattle.words.specs.Numbers.{kindNumber, kinds, kindOf, phaseNumber, phases, phaseOf, answers, answerOf}
+
+abbrev pub sizes : Sizes
+sizes = record { version = 1; head = 9; process = 18; state = 153 }
+
+-- ---- encode
+
+abbrev pub callWords : Call → List ℕ
+callWords c = kindNumber (c .kind) ∷ c .key ∷ c .value ∷ c .timestamp ∷ c .top ∷ c .start ∷ []
+
+abbrev pub cursorWords : Cursor → List ℕ
+cursorWords c = phaseNumber (c .phase) ∷ c .level ∷ c .pred ∷ c .made ∷ []
+
+abbrev pub effectWords : Effect → List ℕ
+effectWords e = placeOf (e .answer) ∷ e .tick ∷ []
+
+abbrev pub processWords : Process → List ℕ
+processWords p = callWords (p .call) ++ cursorWords (p .cursor) ++ effectWords (p .effect) ++ p .preds
+
+unfoldable pub allWords : List Process → List ℕ
+allWords [] = []
+allWords (p ∷ ps) = processWords p ++ allWords ps
+
+abbrev pub bit : Bool → ℕ
+bit true = 1
+bit false = 0
+
+unfoldable pub stateWords : State → List ℕ
+stateWords s =
+    sizes .version ∷ bit (s .opened) ∷ s .processes ∷ s .limit ∷ s .events ∷ s .lengths .nodes ∷ s .lengths .versions
+    ∷ s .counts .nodes ∷ s .counts .versions
+    ∷ allWords (s .process)
+
+-- ---- decode
+
+abbrev pub processFrom : List ℕ → Process
+processFrom w = record {
+  call = record {
+    kind = kindOf (getD w 0 0);
+    key = getD w 1 0;
+    value = getD w 2 0;
+    timestamp = getD w 3 0;
+    top = getD w 4 0;
+    start = getD w 5 0;
+  };
+  cursor = record { phase = phaseOf (getD w 6 0); level = getD w 7 0; pred = getD w 8 0; made = getD w 9 0 };
+  effect = record { answer = answerOf (getD w 10 0); tick = getD w 11 0 };
+  preds = take levels (drop 12 w);
+}
+
+unfoldable pub allFrom : (n : ℕ) → List ℕ → List Process
+allFrom zero w = []
+allFrom (suc n) w = processFrom (take (sizes .process) w) ∷ allFrom n (drop (sizes .process) w)
+
+unfoldable pub stateFrom : List ℕ → State
+stateFrom w = record {
+  opened = eqb (getD w 1 0) 1;
+  processes = getD w 2 0;
+  limit = getD w 3 0;
+  events = getD w 4 0;
+  lengths = record { nodes = getD w 5 0; versions = getD w 6 0 };
+  counts = record { nodes = getD w 7 0; versions = getD w 8 0 };
+  process = allFrom (limits .processes) (drop (sizes .head) w);
+}
+
+-- ---- words that are a state
+
+abbrev pub knownProcess : List ℕ → Bool
+knownProcess w = ltb (getD w 0 0) (length kinds) && ltb (getD w 6 0) (length phases) && ltb (getD w 10 0) (length answers)
+
+unfoldable pub allKnown : (n : ℕ) → List ℕ → Bool
+allKnown zero w = true
+allKnown (suc n) w = if knownProcess (take (sizes .process) w) then allKnown n (drop (sizes .process) w) else false
+
+unfoldable pub isState : List ℕ → Bool
+isState w =
+    eqb (length w) (sizes .state) && eqb (getD w 0 0) (sizes .version) && ltb (getD w 1 0) 2
+    && allKnown (limits .processes) (drop (sizes .head) w)

@@ -1,0 +1,164 @@
+// One process in its eighteen words.
+ghost use mathlib.Core.Path.{_≡_};
+ghost use lib.ListN.{length};
+ghost use Rattle.words.specs.Layout.{sizes, callWords, cursorWords, effectWords, processWords, processFrom, knownProcess};
+ghost use Prim.Native.Nat.{_≤_};
+ghost use mathlib.Core.Bool.{true};
+ghost use Rattle.model.specs.Layout.{topLevel};
+ghost use Rattle.model.specs.Calls.{processAfter};
+ghost use lib.Seq.{sets};
+use crate::numbers::answer_number;
+use crate::numbers::answer_of;
+use crate::numbers::kind_number;
+use crate::numbers::kind_of;
+use crate::numbers::phase_number;
+use crate::numbers::phase_of;
+use model::types::Call;
+use model::types::Cursor;
+use model::types::Effect;
+use model::types::Move;
+use model::types::Process;
+
+pub fn call_in(w: &[u32]) -> Call
+    requires { ⌜ length (now w) ≡ sizes .process ⌝ }
+    ensures { λ r. ⌜ r ≡ processFrom (now (w .entry)) .call ⌝ }
+{
+    Call {
+        kind: kind_of(w[0]),
+        key: w[1],
+        value: w[2],
+        timestamp: w[3],
+        top: w[4],
+        start: w[5],
+    }
+}
+
+pub fn cursor_in(w: &[u32]) -> Cursor
+    requires { ⌜ length (now w) ≡ sizes .process ⌝ }
+    ensures { λ r. ⌜ r ≡ processFrom (now (w .entry)) .cursor ⌝ }
+{
+    Cursor {
+        phase: phase_of(w[6]),
+        level: w[7],
+        pred: w[8],
+        made: w[9],
+    }
+}
+
+pub fn effect_in(w: &[u32]) -> Effect
+    requires { ⌜ length (now w) ≡ sizes .process ⌝ }
+    ensures { λ r. ⌜ r ≡ processFrom (now (w .entry)) .effect ⌝ }
+{
+    Effect {
+        answer: answer_of(w[10]),
+        tick: w[11],
+    }
+}
+
+pub fn preds_in(w: &[u32]) -> [u32; 6]
+    requires { ⌜ length (now w) ≡ sizes .process ⌝ }
+    ensures { λ r. ⌜ r ≡ processFrom (now (w .entry)) .preds ⌝ }
+{
+    [w[12], w[13], w[14], w[15], w[16], w[17]]
+}
+
+pub fn is_process(w: &[u32]) -> bool
+    requires { ⌜ length (now w) ≡ sizes .process ⌝ }
+    ensures { λ r. ⌜ r ≡ knownProcess (now (w .entry)) ⌝ }
+{
+    if 2 < w[0] {
+        return false;
+    }
+    if 8 < w[6] {
+        return false;
+    }
+    w[10] < 7
+}
+
+// Each writer writes its own words and no other.
+pub fn put_cursor(w: &mut [u32], c: Cursor)
+    requires { ⌜ length (now w) ≡ sizes .process ⌝ }
+    ensures { λ r. ⌜ now (w .exit) ≡ sets (now (w .entry)) 6 (cursorWords c) ⌝ }
+{
+    let phase = c.phase;
+    w[6] = phase_number(phase);
+    w[7] = c.level;
+    w[8] = c.pred;
+    w[9] = c.made;
+}
+
+pub fn put_effect(w: &mut [u32], e: Effect)
+    requires { ⌜ length (now w) ≡ sizes .process ⌝ }
+    ensures { λ r. ⌜ now (w .exit) ≡ sets (now (w .entry)) 10 (effectWords e) ⌝ }
+{
+    let answer = e.answer;
+    w[10] = answer_number(answer);
+    w[11] = e.tick;
+}
+
+pub fn put_call(w: &mut [u32], c: Call)
+    requires { ⌜ length (now w) ≡ sizes .process ⌝ }
+    ensures { λ r. ⌜ now (w .exit) ≡ sets (now (w .entry)) 0 (callWords c) ⌝ }
+{
+    let kind = c.kind;
+    w[0] = kind_number(kind);
+    w[1] = c.key;
+    w[2] = c.value;
+    w[3] = c.timestamp;
+    w[4] = c.top;
+    w[5] = c.start;
+}
+
+fn put_preds(w: &mut [u32], preds: [u32; 6])
+    requires { ⌜ length (now w) ≡ sizes .process ⌝ }
+    ensures { λ r. ⌜ now (w .exit) ≡ sets (now (w .entry)) 12 preds ⌝ }
+{
+    w[12] = preds[0];
+    w[13] = preds[1];
+    w[14] = preds[2];
+    w[15] = preds[3];
+    w[16] = preds[4];
+    w[17] = preds[5];
+}
+
+pub fn put_process(w: &mut [u32], p: Process)
+    requires { ⌜ length (now w) ≡ sizes .process ⌝ }
+    ensures { λ r. ⌜ now (w .exit) ≡ processWords p ⌝ }
+{
+    let call = p.call;
+    let cursor = p.cursor;
+    let effect = p.effect;
+    let preds = p.preds;
+    put_call(w, call);
+    put_cursor(w, cursor);
+    put_effect(w, effect);
+    put_preds(w, preds);
+}
+
+// What a move leaves of its process, in place: only the words that it changes are written.
+pub fn apply(w: &mut [u32], tick: u32, mv: Move)
+    requires { ⌜ length (now w) ≡ sizes .process ⌝ }
+    requires { ⌜ knownProcess (now w) ≡ true ⌝ }
+    requires { ⌜ processFrom (now w) .cursor .level ≤ topLevel ⌝ }
+    ensures { λ r. ⌜ now (w .exit) ≡ processWords (processAfter tick (processFrom (now (w .entry))) mv) ⌝ }
+{
+    match mv {
+        Move::Refuse => {}
+        Move::Wait => {}
+        Move::Go(cursor) => put_cursor(w, cursor),
+        Move::Note(cursor) => {
+            let at = 12 + w[7] as usize;
+            w[at] = w[8];
+            put_cursor(w, cursor)
+        }
+        Move::Commit(cursor, answer) => {
+            put_cursor(w, cursor);
+            let effect = Effect { answer, tick };
+            put_effect(w, effect)
+        }
+        Move::End(_, _, _) => {
+            let idle = Process::idle();
+            put_process(w, idle)
+        }
+    }
+}

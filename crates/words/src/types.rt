@@ -1,0 +1,39 @@
+// The layout of the state's words: this many of each part, in this order.
+ghost use mathlib.Core.Path.{_≡_};
+ghost use Rattle.words.specs.Layout.{sizes};
+use model::types::State;
+
+// What decoding finds: a state, or words that are none.
+pub struct Decoded {
+    pub known: bool,
+    pub state: State,
+}
+
+pub struct Sizes {
+    pub version: u32,
+    pub head: usize,
+    pub process: usize,
+    pub state: usize,
+}
+
+impl Sizes {
+    // The layout's own number, word 0. Another layout has another.
+    pub const VERSION: u32 = 1;
+    // Words before the first process.
+    pub const HEAD: usize = 9;
+
+    pub const PROCESS: usize = 18;
+
+    pub const STATE: usize = 153;
+
+    pub fn words() -> Self
+        ensures { λ r. ⌜ r ≡ sizes ⌝ }
+    {
+        Self {
+            version: Self::VERSION,
+            head: Self::HEAD,
+            process: Self::PROCESS,
+            state: Self::STATE,
+        }
+    }
+}
