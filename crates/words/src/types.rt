@@ -1,14 +1,6 @@
 // The layout of the state's words: this many of each part, in this order.
 ghost use mathlib.Core.Path.{_≡_};
 ghost use Rattle.words.specs.Layout.{sizes};
-use model::types::State;
-
-// What decoding finds: a state, or words that are none.
-pub struct Decoded {
-    pub known: bool,
-    pub state: State,
-}
-
 pub struct Sizes {
     pub version: u32,
     pub head: usize,
