@@ -1,6 +1,7 @@
 // The layout of the state's words: this many of each part, in this order.
 ghost use mathlib.Core.Path.{_≡_};
 ghost use Rattle.words.specs.Layout.{sizes};
+
 pub struct Sizes {
     pub version: u32,
     pub head: usize,
