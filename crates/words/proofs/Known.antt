@@ -1,19 +1,23 @@
 -- Processes known one after another.
 use Prim.Native.Nat.{ℕ, suc, _+_, _-_, _≤_, _<_}
-use mathlib.Core.Bool.{Bool, true, false}
-use mathlib.Core.List.{List}
+use mathlib.Core.Bool.{Bool, true, false, _&&_, and-eq-true-iff}
+use mathlib.Core.List.{List, []}
 use mathlib.Core.Path.{_≡_, sym, ap, _∙_}
 use native.Mathlib.Omega.{arith}
-use lib.ListN.{length, getD, take, drop}
-use lib.Seq.{drop-drop}
-use borrow.Author.Tests.{eq-eqb, ne-eqb, lt-ltb, le-ltb}
+use lib.Dec.{eqb, ltb}
+use lib.ListN.{length, getD, take, drop, length-drop, drop-of-length-le}
+use lib.Seq.{length-take-le, drop-drop}
+use borrow.Author.Tests.{eqb-true}
 use Rattle.model.specs.Layout.{limits}
 use Rattle.model.specs.Choice.{if_then_else_}
-use Rattle.words.specs.Layout.{sizes, knownProcess, allKnown, isState}
+use Rattle.words.specs.Layout.{sizes, knownProcess, allKnown, knownHead, isState, startOf, part, isStateAt}
 
 -- the words of the process at a position, as a part that ends where the next begins
-part-is : (w : List ℕ) (at : ℕ) → take (at + sizes .process - at) (drop at w) ≡ take (sizes .process) (drop at w)
+pub part-is : (w : List ℕ) (at : ℕ) → take (at + sizes .process - at) (drop at w) ≡ take (sizes .process) (drop at w)
 part-is w at = let e : at + sizes .process - at ≡ sizes .process = omega arith in ap (λ n. take n (drop at w)) e
+
+pub part-long : (w : List ℕ) (at : ℕ) → at + sizes .process ≤ length w → length (take (at + sizes .process - at) (drop at w)) ≡ sizes .process
+part-long w at h = ap length (part-is w at) ∙ length-take-le 18 (drop at w) (rw length-drop (omega (arith, h)))
 
 module _ (w : List ℕ) (at left : ℕ) (some : 0 < left) (b : Bool) (found : b ≡ knownProcess (take (at + sizes .process - at)
     (drop at w))) where
@@ -34,17 +38,30 @@ pub none-left : (w : List ℕ) (left : ℕ) → left ≡ 0 → true ≡ allKnown
 unfolding allKnown
 none-left w left e = rw e
 
--- the tests of a state in their order
-module _ (w : List ℕ) (long : length w ≡ sizes .state) where
-  pub other-version : (getD w 0 0 ≡ sizes .version → ⊥) → false ≡ isState w
+-- ---- the head, then one process or all
+
+pub head-long : (w : List ℕ) → knownHead w ≡ true → length w ≡ sizes .state
+head-long w h =
+    let a = and-eq-true-iff (eqb (length w) 153 && eqb (getD w 0 0) 1) (ltb (getD w 1 0) 2) .0 h in
+    eqb-true _ _ (and-eq-true-iff (eqb (length w) 153) (eqb (getD w 0 0) 1) .0 (a .0) .0)
+
+module _ (w : List ℕ) (i : ℕ) (b : Bool) (head : b ≡ knownHead w) where
+  pub no-head : b ≡ false → (false ≡ isState w) × (false ≡ isStateAt w i)
+  unfolding isState isStateAt
+  no-head e = (simp (← head, e), simp (← head, e))
+
+  pub by-all : b ≡ true → allKnown (limits .processes) (drop (sizes .head) w) ≡ isState w
   unfolding isState
-  other-version h = simp (eq-eqb (length w) 153 long, ne-eqb (getD w 0 0) 1 h)
+  by-all e = simp (← head, e)
 
-  module _ (version : getD w 0 0 ≡ sizes .version) where
-    pub other-bit : 1 < getD w 1 0 → false ≡ isState w
-    unfolding isState
-    other-bit h = simp (eq-eqb (length w) 153 long, eq-eqb (getD w 0 0) 1 version, le-ltb (getD w 1 0) 2 (omega (arith, h)))
+  pub by-one : b ≡ true → knownProcess (part w i) ≡ isStateAt w i
+  unfolding isStateAt
+  by-one e = simp (← head, e)
 
-    pub by-processes : getD w 1 0 ≤ 1 → allKnown (limits .processes) (drop (sizes .head) w) ≡ isState w
-    unfolding isState
-    by-processes h = simp (eq-eqb (length w) 153 long, eq-eqb (getD w 0 0) 1 version, lt-ltb (getD w 1 0) 2 (omega (arith, h)))
+  -- a number past the last process has no words
+  pub by-none : b ≡ true → limits .processes ≤ i → true ≡ isStateAt w i
+  by-none e h =
+      let long = head-long w (sym head ∙ e) in
+      let past : length w ≤ startOf i = omega (arith, long, h) in
+      let none : drop (startOf i) w ≡ [] = drop-of-length-le w past in
+      sym (ap (λ r. knownProcess (take 18 r)) none) ∙ by-one e

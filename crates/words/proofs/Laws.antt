@@ -15,7 +15,7 @@ use Rattle.model.specs.Layout.{limits}
 use Rattle.model.specs.Numbers.{placeOf}
 use Rattle.model.specs.State.{noProcess, processAt, withEvent}
 use Rattle.words.specs.Numbers.{kindNumber, kindOf, phaseNumber, phaseOf, answerOf}
-use Rattle.words.specs.Layout.{sizes, processWords, allWords, stateWords, processFrom, allFrom, stateFrom, knownProcess, allKnown, isState, bit}
+use Rattle.words.specs.Layout.{sizes, processWords, allWords, stateWords, processFrom, allFrom, stateFrom, knownProcess, allKnown, isState, startOf, part, bit}
 
 -- ---- numbers
 
@@ -72,7 +72,7 @@ process-back w h k =
 -- ---- all processes
 
 -- the first is known, and so are the others
-known-rest : (n : ℕ) (w : List ℕ) → allKnown (suc n) w ≡ true
+pub known-rest : (n : ℕ) (w : List ℕ) → allKnown (suc n) w ≡ true
     → (knownProcess (take (sizes .process) w) ≡ true) × (allKnown n (drop (sizes .process) w) ≡ true)
 unfolding allKnown
 known-rest n w = cases (knownProcess (take 18 w))
@@ -138,12 +138,7 @@ all-at (suc n) (suc i) w d h =
     all-at n i (drop 18 w) d (omega (arith, h))
     ∙ ap (λ r. processFrom (take 18 r)) (drop-drop (18 * i) 18 w ∙ ap (λ k. drop k w) e)
 
--- where a process begins
-abbrev pub start : ℕ → ℕ
-start i = sizes .head + sizes .process * i
-
-pub process-at : (w : List ℕ) (i : ℕ) → i < limits .processes → processAt (stateFrom w) i ≡ processFrom (take (sizes .process) (drop
-    (start i) w))
+pub process-at : (w : List ℕ) (i : ℕ) → i < limits .processes → processAt (stateFrom w) i ≡ processFrom (part w i)
 unfolding stateFrom
 process-at w i h = all-at 8 i (drop 9 w) noProcess h ∙ ap (λ r. processFrom (take 18 r)) (drop-drop (18 * i) 9 w)
 
@@ -167,7 +162,7 @@ all-set (suc n) (suc i) w p h l k =
 
 -- the words with another process at a place, and the counts that its event leaves
 abbrev pub putProcess : (w : List ℕ) (i : ℕ) (part : List ℕ) → List ℕ
-putProcess w i part = take (start i) w ++ (part ++ drop (start i + sizes .process) w)
+putProcess w i part = take (startOf i) w ++ (part ++ drop (startOf i + sizes .process) w)
 
 abbrev pub putEvent : (w : List ℕ) (tick : ℕ) → Counts → List ℕ
 putEvent w tick counts = set (set (set w 4 tick) 7 (counts .nodes)) 8 (counts .versions)
@@ -176,12 +171,12 @@ putEvent w tick counts = set (set (set w 4 tick) 7 (counts .nodes)) 8 (counts .v
 behind : (w : List ℕ) (i : ℕ) (part : List ℕ) → sizes .head ≤ length w
     → putProcess w i part ≡ heads 9 0 w ++ (take (18 * i) (drop 9 w) ++ (part ++ drop (18 * i + 18) (drop 9 w)))
 behind w i part h =
-    let e : 9 + (18 * i + 18) ≡ start i + 18 = omega arith in
+    let e : 9 + (18 * i + 18) ≡ startOf i + 18 = omega arith in
     let nine : take 9 w ≡ heads 9 0 w =
     ap (take 9) (heads-are 9 0 w (omega (arith, h))) in
-    ap (λ a. a ++ (part ++ drop (start i + 18) w)) (take-add 9 (18 * i) w)
-    ∙ append-assoc (take 9 w) (take (18 * i) (drop 9 w)) (part ++ drop (start i + 18) w)
-    ∙ ap (λ a. a ++ (take (18 * i) (drop 9 w) ++ (part ++ drop (start i + 18) w))) nine
+    ap (λ a. a ++ (part ++ drop (startOf i + 18) w)) (take-add 9 (18 * i) w)
+    ∙ append-assoc (take 9 w) (take (18 * i) (drop 9 w)) (part ++ drop (startOf i + 18) w)
+    ∙ ap (λ a. a ++ (take (18 * i) (drop 9 w) ++ (part ++ drop (startOf i + 18) w))) nine
     ∙ ap (λ b. heads 9 0 w ++ (take (18 * i) (drop 9 w) ++ (part ++ b))) (sym (drop-drop (18 * i + 18) 9 w ∙ ap (λ k. drop k w) e))
 
 pub event-words : (w : List ℕ) (i : ℕ) (p : Process) (counts : Counts) → isState w ≡ true → i < limits .processes

@@ -1,10 +1,11 @@
 -- The state as words, and words as a state. Word 0 is the layout's own number; then whether the store is open, processes,
 -- limit, events, lengths of both tables, nodes and versions in use; then eight processes of eighteen words each.
-use Prim.Native.Nat.{ℕ, zero, suc, _+_}
+use Prim.Native.Nat.{ℕ, zero, suc, _+_, _*_}
 use mathlib.Core.Bool.{Bool, true, false, _&&_}
 use mathlib.Core.List.{List, [], _∷_, _++_}
 use lib.Dec.{eqb, ltb}
-use lib.ListN.{length, getD, take, drop}
+use lib.ListN.{length, getD, set, take, drop}
+use lib.Seq.{sets}
 use Rattle.model.specs.declared.types.State.{State}
 use Rattle.model.specs.declared.types.Call.{Call}
 use Rattle.model.specs.declared.types.Cursor.{Cursor}
@@ -13,6 +14,7 @@ use Rattle.model.specs.declared.types.Process.{Process}
 use Rattle.model.specs.Choice.{if_then_else_}
 use Rattle.model.specs.Layout.{levels, limits}
 use Rattle.model.specs.Numbers.{placeOf}
+use Rattle.model.specs.State.{processAt}
 use Rattle.words.specs.declared.types.Sizes.{Sizes}
 use Rattle.words.specs.Numbers.{kindNumber, kinds, kindOf, phaseNumber, phases, phaseOf, answers, answerOf}
 
@@ -41,11 +43,13 @@ abbrev pub bit : Bool → ℕ
 bit true = 1
 bit false = 0
 
-unfoldable pub stateWords : State → List ℕ
-stateWords s =
+abbrev pub headWords : State → List ℕ
+headWords s =
     sizes .version ∷ bit (s .opened) ∷ s .processes ∷ s .limit ∷ s .events ∷ s .lengths .nodes ∷ s .lengths .versions
-    ∷ s .counts .nodes ∷ s .counts .versions
-    ∷ allWords (s .process)
+    ∷ s .counts .nodes ∷ s .counts .versions ∷ []
+
+unfoldable pub stateWords : State → List ℕ
+stateWords s = headWords s ++ allWords (s .process)
 
 -- ---- decode
 
@@ -88,7 +92,27 @@ unfoldable pub allKnown : (n : ℕ) → List ℕ → Bool
 allKnown zero w = true
 allKnown (suc n) w = if knownProcess (take (sizes .process) w) then allKnown n (drop (sizes .process) w) else false
 
+-- the layout's own number in a state of the right length, open or not
+abbrev pub knownHead : List ℕ → Bool
+knownHead w = eqb (length w) (sizes .state) && eqb (getD w 0 0) (sizes .version) && ltb (getD w 1 0) 2
+
 unfoldable pub isState : List ℕ → Bool
-isState w =
-    eqb (length w) (sizes .state) && eqb (getD w 0 0) (sizes .version) && ltb (getD w 1 0) 2
-    && allKnown (limits .processes) (drop (sizes .head) w)
+isState w = knownHead w && allKnown (limits .processes) (drop (sizes .head) w)
+
+-- ---- one process of a state
+
+-- where a process begins, and its words
+abbrev pub startOf : ℕ → ℕ
+startOf i = sizes .head + sizes .process * i
+
+abbrev pub part : List ℕ → ℕ → List ℕ
+part w i = take (sizes .process) (drop (startOf i) w)
+
+-- the head and process i are a state's: no more is read at a step of it
+unfoldable pub isStateAt : List ℕ → ℕ → Bool
+isStateAt w i = knownHead w && knownProcess (part w i)
+
+-- the words after an event of process i: its events, counts and that process are written over
+unfoldable pub written : List ℕ → ℕ → State → List ℕ
+written w i s =
+    set (set (set (sets w (startOf i) (processWords (processAt s i))) 4 (s .events)) 7 (s .counts .nodes)) 8 (s .counts .versions)

@@ -62,6 +62,22 @@ pub fn preds_in(w: &[u32]) -> [u32; 6]
     [w[12], w[13], w[14], w[15], w[16], w[17]]
 }
 
+pub fn process_in(w: &[u32]) -> Process
+    requires { ⌜ length (now w) ≡ sizes .process ⌝ }
+    ensures { λ r. ⌜ r ≡ processFrom (now (w .entry)) ⌝ }
+{
+    let call = call_in(w);
+    let cursor = cursor_in(w);
+    let effect = effect_in(w);
+    let preds = preds_in(w);
+    Process {
+        call,
+        cursor,
+        effect,
+        preds,
+    }
+}
+
 pub fn is_process(w: &[u32]) -> bool
     requires { ⌜ length (now w) ≡ sizes .process ⌝ }
     ensures { λ r. ⌜ r ≡ knownProcess (now (w .entry)) ⌝ }

@@ -1,14 +1,19 @@
 // The whole state in its words.
 ghost use mathlib.Core.Path.{_≡_};
 ghost use Prim.Native.Nat.{_+_};
-ghost use lib.ListN.{length, drop, set};
+ghost use lib.ListN.{length, take, drop, set};
+ghost use mathlib.Core.List.{_++_};
 ghost use Rattle.model.specs.Layout.{limits};
 ghost use Rattle.permits.specs.Header.{headerOf};
-ghost use Rattle.words.specs.Layout.{sizes, stateFrom, allKnown, isState};
+ghost use Rattle.words.specs.Layout.{sizes, headWords, allWords, stateWords, allFrom, stateFrom, allKnown, knownHead, isState, isStateAt};
+ghost use lib.Seq.{sets};
 use crate::process::is_process;
+use crate::process::process_in;
+use crate::process::put_process;
 use crate::types::Sizes;
 use model::types::Counts;
 use model::types::Lengths;
+use model::types::Process;
 use model::types::State;
 use permits::header::Header;
 
@@ -30,9 +35,9 @@ fn all_known(words: &[u32]) -> bool
     true
 }
 
-// Whether the words are a state of this layout.
-pub fn is_state(words: &[u32]) -> bool
-    ensures { λ r. ⌜ r ≡ isState (now (words .entry)) ⌝ }
+// Whether the words are as many as a state's, of this layout, open or not.
+fn is_head(words: &[u32]) -> bool
+    ensures { λ r. ⌜ r ≡ knownHead (now (words .entry)) ⌝ }
 {
     if words.len() != Sizes::STATE {
         return false;
@@ -40,10 +45,32 @@ pub fn is_state(words: &[u32]) -> bool
     if words[0] != Sizes::VERSION {
         return false;
     }
-    if 1 < words[1] {
+    words[1] < 2
+}
+
+// Whether the words are a state of this layout.
+pub fn is_state(words: &[u32]) -> bool
+    ensures { λ r. ⌜ r ≡ isState (now (words .entry)) ⌝ }
+{
+    if !is_head(words) {
         return false;
     }
     all_known(words)
+}
+
+// The same of the head and one process: what a step of it reads.
+pub fn is_state_at(words: &[u32], process: u32) -> bool
+    ensures { λ r. ⌜ r ≡ isStateAt (now (words .entry)) process ⌝ }
+{
+    if !is_head(words) {
+        return false;
+    }
+    if State::PROCESSES <= process {
+        return true;
+    }
+    let at = Sizes::HEAD + Sizes::PROCESS * process as usize;
+    let end = at + Sizes::PROCESS;
+    is_process(&words[at..end])
 }
 
 pub fn header_in(words: &[u32]) -> Header
@@ -66,6 +93,81 @@ pub fn header_in(words: &[u32]) -> Header
         lengths,
         counts,
     }
+}
+
+// The processes, one after another.
+fn processes_in(words: &[u32]) -> [Process; 8]
+    requires { ⌜ length (now words) ≡ sizes .state ⌝ }
+    ensures { λ r. ⌜ r ≡ allFrom (limits .processes) (drop (sizes .head) (now (words .entry))) ⌝ }
+{
+    let mut process = [Process::idle(); 8];
+    let mut at = Sizes::HEAD;
+    let mut i = 0;
+    while i < State::PROCESSES {
+        let end = at + Sizes::PROCESS;
+        process[i as usize] = process_in(&words[at..end]);
+        at = end;
+        i += 1;
+    }
+    process
+}
+
+pub fn state_in(words: &[u32]) -> State
+    requires { ⌜ length (now words) ≡ sizes .state ⌝ }
+    ensures { λ r. ⌜ r ≡ stateFrom (now (words .entry)) ⌝ }
+{
+    let h = header_in(words);
+    let lengths = h.lengths;
+    let counts = h.counts;
+    let process = processes_in(words);
+    State {
+        opened: h.opened,
+        processes: h.processes,
+        limit: h.limit,
+        events: h.events,
+        lengths,
+        counts,
+        process,
+    }
+}
+
+fn put_head(words: &mut [u32], s: State)
+    requires { ⌜ length (now words) ≡ sizes .state ⌝ }
+    ensures { λ r. ⌜ now (words .exit) ≡ sets (now (words .entry)) 0 (headWords s) ⌝ }
+{
+    words[0] = Sizes::VERSION;
+    words[1] = s.opened as u32;
+    words[2] = s.processes;
+    words[3] = s.limit;
+    words[4] = s.events;
+    words[5] = s.lengths.nodes;
+    words[6] = s.lengths.versions;
+    words[7] = s.counts.nodes;
+    words[8] = s.counts.versions;
+}
+
+fn put_processes(words: &mut [u32], process: [Process; 8])
+    requires { ⌜ length (now words) ≡ sizes .state ⌝ }
+    ensures { λ r. ⌜ now (words .exit) ≡ take (sizes .head) (now (words .entry)) ++ allWords process ⌝ }
+{
+    let mut at = Sizes::HEAD;
+    let mut i = 0;
+    while i < State::PROCESSES {
+        let end = at + Sizes::PROCESS;
+        let p = process[i as usize];
+        put_process(&mut words[at..end], p);
+        at = end;
+        i += 1;
+    }
+}
+
+pub fn put_state(words: &mut [u32], s: State)
+    requires { ⌜ length (now words) ≡ sizes .state ⌝ }
+    ensures { λ r. ⌜ now (words .exit) ≡ stateWords s ⌝ }
+{
+    let process = s.process;
+    put_head(words, s);
+    put_processes(words, process);
 }
 
 // The counts that an event leaves.

@@ -1,43 +1,22 @@
--- The tests one after another.
-use mathlib.Core.Path.{_∙_}
-use borrow.Author.Tests.{ne-eqb}
-use Rattle.words.proofs.Known.{other-version, other-bit, by-processes}
-use Rattle.words.specs.Layout.{isState}
+-- The head, then the processes.
+use mathlib.Core.Path.{sym, _∙_}
 use borrow.Author.Needs.{needs}
+use borrow.Author.Tests.{not-true, not-false}
+use Rattle.words.proofs.Known.{head-long, no-head, by-all}
 use Rattle.words.proofs.state.is_state.Statement.{statement}
 use Rattle.words.proofs.state.is_state.Tie as tie
 
+is-head-requires : tie.Need-is-head-requires
+is-head-requires c κs = search needs
+
 returns : tie.Need-returns
-unfolding isState
-returns c = simp (ne-eqb _ _ (c .if1 .taken))
-
-shared-slice-read-if2 : tie.Need-shared-slice-read-if2
-shared-slice-read-if2 c = search needs
-
-returns-2 : tie.Need-returns-2
-returns-2 c = other-version _ (c .before .before .if1 .left) (c .if2 .taken)
-
-shared-slice-read-if3 : tie.Need-shared-slice-read-if3
-shared-slice-read-if3 c = search needs
-
-returns-3 : tie.Need-returns-3
-returns-3 c = other-bit _ (c .before .before .before .before .if1 .left) (c .before .before .if2 .left) (c .if3 .taken)
+returns c = no-head _ 0 _ (c .before .is-head .ensures) (not-true _ (c .if1 .taken)) .0
 
 all-known-requires : tie.Need-all-known-requires
-all-known-requires c κs = search needs
+all-known-requires c κs = head-long (c .before .before .before .args .words .now) (sym (c .before .is-head .ensures) ∙ not-false _ (c .if1 .left))
 
-returns-4 : tie.Need-returns-4
-returns-4 c = c .all-known .ensures ∙ by-processes _ (c .before .before .before .before .before .if1 .left)
-    (c .before .before .before .if2 .left) (c .before .if3 .left)
+returns-2 : tie.Need-returns-2
+returns-2 c = c .all-known .ensures ∙ by-all _ 0 _ (c .before .before .is-head .ensures) (not-false _ (c .before .if1 .left))
 
 pub is-state-spec : {M : Type 1} → statement M
-is-state-spec =
-    tie.close
-    (tie.spec
-    returns
-    shared-slice-read-if2
-    returns-2
-    shared-slice-read-if3
-    returns-3
-    all-known-requires
-    returns-4)
+is-state-spec = tie.close (tie.spec is-head-requires returns all-known-requires returns-2)

@@ -1,0 +1,138 @@
+-- A state is decoded from its words: the other half of the round trip.
+use Prim.Native.Nat.{ℕ, zero, suc, _+_, _*_, _≤_, _<_}
+use mathlib.Core.Bool.{Bool, true, false, _&&_}
+use mathlib.Core.List.{List, [], _∷_, _++_}
+use mathlib.Core.Path.{_≡_, refl, sym, ap, _∙_}
+use native.Mathlib.Omega.{arith}
+use lib.Dec.{eqb, ltb}
+use lib.ListN.{length, getD, take, drop, length-append}
+use lib.Seq.{take-at, drop-at}
+use Rattle.model.specs.declared.types.Answer.{Answer}
+use Rattle.model.specs.declared.types.Answer.the-variants.{TooOld, VersionsFull, Added, KeysFull, New, Found, None}
+use Rattle.model.specs.declared.types.Kind.{Kind}
+use Rattle.model.specs.declared.types.Kind.the-variants.{Idle, Put, Get}
+use Rattle.model.specs.declared.types.Phase.{Phase}
+use Rattle.model.specs.declared.types.Phase.the-variants.{Walk, Read, Seek, Lock, Check, Update, Make, Link, Release}
+use Rattle.model.specs.declared.types.Process.{Process}
+use Rattle.model.specs.declared.types.State.{State}
+use Rattle.model.specs.Choice.{if_then_else_}
+use Rattle.model.specs.Layout.{levels, limits}
+use Rattle.model.specs.Numbers.{placeOf}
+use Rattle.model.specs.State.{noProcess}
+use Rattle.words.specs.Numbers.{kindNumber, kindOf, phaseNumber, phaseOf, answerOf}
+use Rattle.words.specs.Layout.{sizes, processWords, allWords, stateWords, processFrom, allFrom, stateFrom, knownProcess, allKnown, isState, bit}
+use Rattle.words.proofs.Applied.{spelt}
+use Rattle.words.proofs.Laws.{heads}
+
+kind-from : (k : Kind) → (kindOf (kindNumber k) ≡ k) × (ltb (kindNumber k) 3 ≡ true)
+kind-from Idle = (refl, refl)
+kind-from Put = (refl, refl)
+kind-from Get = (refl, refl)
+
+phase-from : (p : Phase) → (phaseOf (phaseNumber p) ≡ p) × (ltb (phaseNumber p) 9 ≡ true)
+phase-from Walk = (refl, refl)
+phase-from Read = (refl, refl)
+phase-from Seek = (refl, refl)
+phase-from Lock = (refl, refl)
+phase-from Check = (refl, refl)
+phase-from Update = (refl, refl)
+phase-from Make = (refl, refl)
+phase-from Link = (refl, refl)
+phase-from Release = (refl, refl)
+
+answer-from : (a : Answer) → (answerOf (placeOf a) ≡ a) × (ltb (placeOf a) 7 ≡ true)
+unfolding placeOf
+answer-from TooOld = (refl, refl)
+answer-from VersionsFull = (refl, refl)
+answer-from Added = (refl, refl)
+answer-from KeysFull = (refl, refl)
+answer-from New = (refl, refl)
+answer-from Found = (refl, refl)
+answer-from None = (refl, refl)
+
+-- ---- one process: it remembers a node at each level
+
+pub process-long : (p : Process) → length (p .preds) ≡ levels → length (processWords p) ≡ sizes .process
+process-long p h = simp h
+
+-- its words with the remembered nodes by name
+by-name : (p : Process) → length (p .preds) ≡ levels → processWords (record {
+  call = p .call;
+  cursor = p .cursor;
+  effect = p .effect;
+  preds = heads 6 0 (p .preds);
+}) ≡ processWords p
+by-name p h = ap (λ preds. processWords (record { call = p .call; cursor = p .cursor; effect = p .effect; preds = preds })) (spelt 6 (p .preds) h)
+
+pub process-from : (p : Process) → length (p .preds) ≡ levels → processFrom (processWords p) ≡ p
+process-from p h =
+    ap processFrom (sym (by-name p h))
+    ∙ simp (kind-from (p .call .kind) .0, phase-from (p .cursor .phase) .0, answer-from (p .effect .answer) .0, spelt 6 (p .preds) h)
+
+process-known : (p : Process) → knownProcess (processWords p) ≡ true
+process-known p = simp (kind-from (p .call .kind) .1, phase-from (p .cursor .phase) .1, answer-from (p .effect .answer) .1)
+
+-- ---- all processes
+
+-- each of a list remembers a node at each level
+abbrev pub Remembers : List Process → Type 0
+Remembers ps = (i : ℕ) → i < length ps → length (getD ps i noProcess .preds) ≡ levels
+
+module _ (p : Process) (ps : List Process) (six : Remembers (p ∷ ps)) where
+  own : length (p .preds) ≡ levels
+  own = six 0 (omega arith)
+
+  rest : Remembers ps
+  rest i h = six (suc i) (omega (arith, h))
+
+  first : take (sizes .process) (allWords (p ∷ ps)) ≡ processWords p
+  unfolding allWords
+  first = take-at (processWords p) (allWords ps) 18 (process-long p own)
+
+  others : drop (sizes .process) (allWords (p ∷ ps)) ≡ allWords ps
+  unfolding allWords
+  others = drop-at (processWords p) (allWords ps) 18 (process-long p own)
+
+pub all-from : (ps : List Process) → Remembers ps → allFrom (length ps) (allWords ps) ≡ ps
+unfolding allFrom
+all-from [] six = refl
+all-from (p ∷ ps) six =
+    ap (λ w. processFrom w ∷ allFrom (length ps) (drop 18 (allWords (p ∷ ps)))) (first p ps six)
+    ∙ ap (λ w. processFrom (processWords p) ∷ allFrom (length ps) w) (others p ps six)
+    ∙ ap (λ q. q ∷ allFrom (length ps) (allWords ps)) (process-from p (own p ps six))
+    ∙ ap (λ r. p ∷ r) (all-from ps (rest p ps six))
+
+all-known : (ps : List Process) → Remembers ps → allKnown (length ps) (allWords ps) ≡ true
+unfolding allKnown
+all-known [] six = refl
+all-known (p ∷ ps) six =
+    ap (λ w. if knownProcess w then allKnown (length ps) (drop 18 (allWords (p ∷ ps))) else false) (first p ps six)
+    ∙ ap (λ b. if b then allKnown (length ps) (drop 18 (allWords (p ∷ ps))) else false) (process-known p)
+    ∙ ap (allKnown (length ps)) (others p ps six)
+    ∙ all-known ps (rest p ps six)
+
+all-long : (ps : List Process) → Remembers ps → length (allWords ps) ≡ sizes .process * length ps
+unfolding allWords
+all-long [] six = refl
+all-long (p ∷ ps) six =
+    let a = process-long p (own p ps six) in
+    let b = all-long ps (rest p ps six) in
+    length-append (processWords p) (allWords ps) ∙ omega (arith, a, b)
+
+-- ---- the state: eight processes, each with a node at each level, as every value of its type has
+
+module _ (s : State) (eight : length (s .process) ≡ limits .processes) (six : Remembers (s .process)) where
+  opened-from : (b : Bool) → (eqb (bit b) 1 ≡ b) × (ltb (bit b) 2 ≡ true)
+  opened-from true = (refl, refl)
+  opened-from false = (refl, refl)
+
+  -- decoding what was encoded
+  pub state-from : stateFrom (stateWords s) ≡ s
+  unfolding stateFrom stateWords
+  state-from = simp (opened-from (s .opened) .0, ← eight, all-from (s .process) six)
+
+  -- and what was encoded is known as a state
+  pub state-known : isState (stateWords s) ≡ true
+  unfolding isState stateWords
+  state-known =
+      simp (opened-from (s .opened) .1, all-long (s .process) six, ap (λ n. allKnown n (allWords (s .process))) (sym eight) ∙ all-known (s .process) six, eight)
