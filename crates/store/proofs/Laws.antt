@@ -25,7 +25,7 @@ use Rattle.store.specs.Advance.{Advance, advanceBy, advanceOf}
 
 -- ---- advance
 
-refused-is : (v : Move) → refuses v ≡ true → v ≡ Refuse
+pub refused-is : (v : Move) → refuses v ≡ true → v ≡ Refuse
 refused-is Refuse e = refl
 refused-is Wait e = cc
 refused-is (Go c) e = cc

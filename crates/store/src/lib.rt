@@ -1,11 +1,11 @@
 // The public calls of the store: open, start, step and status. None asks anything of its arguments: what is unlawful is
-// refused, and a refusal changes nothing.
+// refused, and a refusal changes nothing. `after`, `slot` and `tally` are what the calls on lent words share with these.
 mod advance;
-mod after;
+pub mod after;
 pub mod open;
-mod slot;
+pub mod slot;
 pub mod start;
 pub mod status;
 pub mod step;
-mod tally;
+pub mod tally;
 pub mod types;

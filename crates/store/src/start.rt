@@ -18,7 +18,7 @@ use permits::header::header_of;
 use permits::permit::start_permit;
 
 // The top level that a draw gives.
-fn top_of(draw: u16) -> u32
+pub fn top_of(draw: u16) -> u32
     ensures { λ r. ⌜ r ≡ topOf draw ⌝ }
 {
     let zeros = u16::trailing_zeros(draw);
@@ -30,7 +30,7 @@ fn top_of(draw: u16) -> u32
 }
 
 // A process at the start of its walk.
-fn begin(call: Call) -> Process
+pub fn begin(call: Call) -> Process
     ensures { λ r. ⌜ r ≡ begun call ⌝ }
 {
     let cursor = Cursor {

@@ -23,7 +23,7 @@ sets-past [] l i h = refl
 sets-past (v ∷ vs) l i h = ap (λ l. sets l (suc i) vs) (set-out l i v h) ∙ sets-past vs l (suc i) (omega (arith, h))
 
 -- a part put where it was taken from
-sets-part : (w : List ℕ) (at : ℕ) → at + sizes .process ≤ length w → sets w at (take (sizes .process) (drop at w)) ≡ w
+pub sets-part : (w : List ℕ) (at : ℕ) → at + sizes .process ≤ length w → sets w at (take (sizes .process) (drop at w)) ≡ w
 sets-part w at h =
     let long : length (take 18 (drop at w)) ≡ 18 = length-take-le 18 (drop at w) (rw length-drop (omega (arith, h))) in
     sets-eq (take 18 (drop at w)) w at (rw long h)
@@ -34,11 +34,11 @@ sets-part w at h =
     ∙ take-append-drop at w
 
 -- what the test of one process tells
-part-facts : (w : List ℕ) (i : ℕ) → isStateAt w i ≡ true → (length w ≡ sizes .state) × (knownProcess (part w i) ≡ true)
+pub part-facts : (w : List ℕ) (i : ℕ) → isStateAt w i ≡ true → (length w ≡ sizes .state) × (knownProcess (part w i) ≡ true)
 unfolding isStateAt
 part-facts w i k = let a = and-eq-true-iff (knownHead w) (knownProcess (part w i)) .0 k in (head-long w (a .0), a .1)
 
-process-same : (w : List ℕ) (i : ℕ) → isStateAt w i ≡ true → sets w (startOf i) (processWords (processAt (stateFrom w) i)) ≡ w
+pub process-same : (w : List ℕ) (i : ℕ) → isStateAt w i ≡ true → sets w (startOf i) (processWords (processAt (stateFrom w) i)) ≡ w
 process-same w i k = cases (ltb i 8) refl
   where
     cases : (b : Bool) → ltb i 8 ≡ b → sets w (startOf i) (processWords (processAt (stateFrom w) i)) ≡ w

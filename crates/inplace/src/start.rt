@@ -1,0 +1,101 @@
+// Starts of a put and of a get: the process's words and the count of events are written.
+ghost use mathlib.Core.Path.{_≡_};
+ghost use Prim.Native.Nat.{_+_};
+ghost use Rattle.model.specs.Calls.{startPermit, startBy};
+ghost use Rattle.words.specs.Layout.{stateFrom};
+ghost use Rattle.inplace.specs.Calls.{startUnless, startPutIn, startGetIn};
+use model::types::Call;
+use model::types::Kind;
+use model::types::Permit;
+use model::types::Refusal;
+use model::types::Starting;
+use permits::permit::start_permit;
+use store::slot::slot;
+use store::start::begin;
+use store::start::top_of;
+use words::numbers::kind_of;
+use words::process::put_process;
+use words::state::header_in;
+use words::state::is_state;
+use words::state::put_event;
+use words::types::Sizes;
+
+fn start_in(
+    words: &mut [u32],
+    nodes: &[u32],
+    versions: &[u32],
+    process: u32,
+    kind: Kind,
+    key: u32,
+    value: u32,
+    timestamp: u32,
+    top: u32,
+) -> Starting
+    ensures { λ r. ⌜ record { outcome = r; words = now (words .exit) } ≡ startUnless (now (words .entry)) (startBy (startPermit (stateFrom (now (words .entry))) (now (nodes .entry)) (now (versions .entry)) process key) (stateFrom (now (words .entry))) process (record { kind = kind; key = key; value = value; timestamp = timestamp; top = top; start = stateFrom (now (words .entry)) .events + 1 })) ⌝ }
+{
+    if !is_state(words) {
+        return Starting::Refused(Refusal::Corrupt);
+    }
+    let h = header_in(words);
+    let at = Sizes::HEAD + Sizes::PROCESS * slot(process);
+    let held = kind_of(words[at]);
+    let permit = start_permit(h, held, nodes, versions, process, key);
+    match permit {
+        Permit::Denied(refusal) => Starting::Refused(refusal),
+        Permit::Granted => {
+            let end = at + Sizes::PROCESS;
+            let tick = h.events + 1;
+            let call = Call {
+                kind,
+                key,
+                value,
+                timestamp,
+                top,
+                start: tick,
+            };
+            let begun = begin(call);
+            let counts = h.counts;
+            put_process(&mut words[at..end], begun);
+            put_event(words, tick, counts);
+            Starting::Started(tick)
+        }
+    }
+}
+
+pub fn start_put_in(
+    words: &mut [u32],
+    nodes: &[u32],
+    versions: &[u32],
+    process: u32,
+    key: u32,
+    value: u32,
+    timestamp: u32,
+    draw: u16,
+) -> Starting
+    ensures { λ r. ⌜ record { outcome = r; words = now (words .exit) } ≡ startPutIn (now (words .entry)) (now (nodes .entry)) (now (versions .entry)) process key value timestamp draw ⌝ }
+{
+    let top = top_of(draw);
+    start_in(
+        words,
+        nodes,
+        versions,
+        process,
+        Kind::Put,
+        key,
+        value,
+        timestamp,
+        top,
+    )
+}
+
+pub fn start_get_in(
+    words: &mut [u32],
+    nodes: &[u32],
+    versions: &[u32],
+    process: u32,
+    key: u32,
+) -> Starting
+    ensures { λ r. ⌜ record { outcome = r; words = now (words .exit) } ≡ startGetIn (now (words .entry)) (now (nodes .entry)) (now (versions .entry)) process key ⌝ }
+{
+    start_in(words, nodes, versions, process, Kind::Get, key, 0, 0, 0)
+}

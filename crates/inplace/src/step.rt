@@ -1,0 +1,55 @@
+// One step of a process: the head and its words are read and written, and no other.
+ghost use mathlib.Core.Path.{_≡_};
+ghost use Rattle.inplace.specs.Calls.{stepIn};
+use crate::advance::advance;
+use model::types::Permit;
+use model::types::Refusal;
+use model::types::Stepping;
+use permits::permit::step_permit;
+use store::slot::slot;
+use words::numbers::kind_of;
+use words::state::header_in;
+use words::state::is_state_at;
+use words::state::put_event;
+use words::types::Sizes;
+
+pub fn step_in(
+    words: &mut [u32],
+    process: u32,
+    nodes: &mut [u32],
+    versions: &mut [u32],
+    tally: &mut [u32],
+) -> Stepping
+    ensures { λ r. ⌜ record { outcome = r; words = now (words .exit); nodes = now (nodes .exit); versions = now (versions .exit); tally = now (tally .exit) } ≡ stepIn (now (words .entry)) (now (nodes .entry)) (now (versions .entry)) (now (tally .entry)) process ⌝ }
+{
+    if !is_state_at(words, process) {
+        return Stepping::Refused(Refusal::Corrupt);
+    }
+    let h = header_in(words);
+    let at = Sizes::HEAD + Sizes::PROCESS * slot(process);
+    let kind = kind_of(words[at]);
+    let permit = step_permit(h, kind, nodes, versions, tally, process);
+    match permit {
+        Permit::Denied(refusal) => Stepping::Refused(refusal),
+        Permit::Granted => {
+            let end = at + Sizes::PROCESS;
+            let tick = h.events + 1;
+            let a = advance(
+                &mut words[at..end],
+                h.counts,
+                process + 1,
+                tick,
+                nodes,
+                versions,
+                tally,
+            );
+            let outcome = a.outcome;
+            if a.refused {
+                return outcome;
+            }
+            let counts = a.counts;
+            put_event(words, tick, counts);
+            outcome
+        }
+    }
+}
