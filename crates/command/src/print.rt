@@ -3,13 +3,13 @@ ghost use mathlib.Core.Path.{_≡_};
 ghost use mathlib.Core.List.{_++_};
 ghost use Prim.Native.Nat.{_+_, _≤_};
 ghost use lib.ListN.{length};
-ghost use Rattle.model.specs.Numbers.{numberOf};
 ghost use Rattle.command.specs.Text.{ascii, spaced, decimal, Wrote};
 ghost use Rattle.command.specs.Lines.{kindWord, answerWord, lineOf, room, printOf};
 use crate::text::put_ending;
 use crate::text::put_number;
 use crate::text::put_text;
 use crate::types::Line;
+use model::numbers::number_of;
 use model::types::Answer;
 use model::types::Finish;
 use model::types::Kind;
@@ -40,30 +40,6 @@ fn put_answer(out: &mut [u8], at: usize, answer: Answer) -> usize
         Answer::New => put_text(out, at, b" new"),
         Answer::Found => put_text(out, at, b" found"),
         Answer::None => put_text(out, at, b" none"),
-    }
-}
-
-// Document 01's number of a refusal.
-fn number_of(refusal: Refusal) -> u32
-    ensures { λ r. ⌜ r ≡ numberOf refusal ⌝ }
-{
-    match refusal {
-        Refusal::NodeLength => 1,
-        Refusal::VersionLength => 2,
-        Refusal::ProcessCount => 3,
-        Refusal::EventLimit => 4,
-        Refusal::NoProcess => 5,
-        Refusal::BadKey => 6,
-        Refusal::Busy => 7,
-        Refusal::NoCall => 8,
-        Refusal::Spent => 9,
-        Refusal::Corrupt => 10,
-        Refusal::Damaged => 11,
-        Refusal::NoKey => 12,
-        Refusal::NoVersion => 13,
-        Refusal::NotOpen => 14,
-        Refusal::UnknownCommand => 15,
-        Refusal::CutShort => 16,
     }
 }
 

@@ -1,2 +1,3 @@
-// The types of the store, by value. Their meaning stands in specs/, what follows from it in proofs/.
+// The types of the store, by value, and their numbers. Their meaning stands in specs/, what follows from it in proofs/.
+pub mod numbers;
 pub mod types;

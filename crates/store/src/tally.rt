@@ -2,32 +2,18 @@
 ghost use mathlib.Core.Path.{_≡_};
 ghost use lib.ListN.{length};
 ghost use Rattle.model.specs.Layout.{limits};
-ghost use Rattle.model.specs.Numbers.{placeOf};
 ghost use Rattle.model.specs.Calls.{counted, tallyAfter};
+use model::numbers::place_of;
 use model::types::Answer;
 use model::types::Move;
 use model::types::State;
-
-fn place_of(answer: Answer) -> usize
-    ensures { λ r. ⌜ r ≡ placeOf answer ⌝ }
-{
-    match answer {
-        Answer::TooOld => 0,
-        Answer::VersionsFull => 1,
-        Answer::Added => 2,
-        Answer::KeysFull => 3,
-        Answer::New => 4,
-        Answer::Found => 5,
-        Answer::None => 6,
-    }
-}
 
 // One more of an answer; a full count stays.
 fn count(tally: &mut [u32], answer: Answer)
     requires { ⌜ length (now tally) ≡ limits .answers ⌝ }
     ensures { λ r. ⌜ now (tally .exit) ≡ counted (now (tally .entry)) answer ⌝ }
 {
-    let i = place_of(answer);
+    let i = place_of(answer) as usize;
     let n = tally[i];
     if n < State::COUNT {
         tally[i] = n + 1;

@@ -13,7 +13,7 @@ use Rattle.model.specs.declared.types.Process.{Process}
 use Rattle.model.specs.Layout.{limits}
 use Rattle.model.specs.State.{noProcess, processAt, withEvent}
 use Rattle.words.specs.Layout.{sizes, processWords, stateWords, allFrom, stateFrom, knownProcess, allKnown, knownHead, isState, startOf, part, isStateAt, written}
-use Rattle.words.proofs.Known.{head-long}
+use Rattle.words.proofs.Known.{head-long, by-one, by-none}
 use Rattle.words.proofs.Laws.{process-back, process-at, known-rest, state-facts, putProcess, putEvent, event-words}
 
 -- ---- nothing happened
@@ -83,16 +83,23 @@ known-at (suc n) (suc i) w h k =
     ap (λ r. knownProcess (take 18 r)) (sym (drop-drop (18 * i) 18 w ∙ ap (λ k. drop k w) e))
     ∙ known-at n i (drop 18 w) (omega (arith, h)) (known-rest n w k .1)
 
--- words that are a state are one at each of its processes
-pub state-at : (w : List ℕ) (i : ℕ) → i < limits .processes → isState w ≡ true → isStateAt w i ≡ true
-unfolding isState isStateAt
-state-at w i h k =
-    let a = and-eq-true-iff (knownHead w) (allKnown 8 (drop 9 w)) .0 k in
-    let own = ap (λ r. knownProcess (take 18 r)) (sym (drop-drop (18 * i) 9 w)) ∙ known-at 8 i (drop 9 w) h (a .1) in
-    and-eq-true-iff (knownHead w) (knownProcess (part w i)) .1 (a .0, own)
+-- words that are a state are one at each of its processes, and at any other number
+pub state-at : (w : List ℕ) (i : ℕ) → isState w ≡ true → isStateAt w i ≡ true
+unfolding isState
+state-at w i k = cases (ltb i 8) refl
+  where
+    head : knownHead w ≡ true
+    head = and-eq-true-iff (knownHead w) (allKnown 8 (drop 9 w)) .0 k .0
+
+    cases : (b : Bool) → ltb i 8 ≡ b → isStateAt w i ≡ true
+    cases true e =
+        let all = and-eq-true-iff (knownHead w) (allKnown 8 (drop 9 w)) .0 k .1 in
+        sym (by-one w i (knownHead w) refl head)
+        ∙ ap (λ r. knownProcess (take 18 r)) (sym (drop-drop (18 * i) 9 w)) ∙ known-at 8 i (drop 9 w) (ltb-true i 8 e) all
+    cases false e = sym (by-none w i (knownHead w) refl head (ltb-false i 8 e))
 
 -- there the words written are the whole state encoded
 pub written-state : (w : List ℕ) (i : ℕ) (p : Process) (counts : Counts) → isState w ≡ true → i < limits .processes
     → length (processWords p) ≡ sizes .process
     → written w i (withEvent (stateFrom w) i counts p) ≡ stateWords (withEvent (stateFrom w) i counts p)
-written-state w i p counts k h l = sym (written-event w i p counts (state-at w i h k) h l) ∙ event-words w i p counts k h
+written-state w i p counts k h l = sym (written-event w i p counts (state-at w i k) h l) ∙ event-words w i p counts k h

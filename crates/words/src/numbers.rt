@@ -1,7 +1,6 @@
-// The number of each kind, phase and answer, and back.
+// The number of each kind and phase, and back; an answer's is its place in the tally.
 ghost use mathlib.Core.Path.{_≡_};
 ghost use Rattle.words.specs.Numbers.{kindNumber, kindOf, phaseNumber, phaseOf, answerOf};
-ghost use Rattle.model.specs.Numbers.{placeOf};
 use model::types::Answer;
 use model::types::Kind;
 use model::types::Phase;
@@ -57,20 +56,6 @@ pub fn phase_of(word: u32) -> Phase
         7 => Phase::Link,
         8 => Phase::Release,
         _ => Phase::Walk,
-    }
-}
-
-pub fn answer_number(answer: Answer) -> u32
-    ensures { λ r. ⌜ r ≡ placeOf answer ⌝ }
-{
-    match answer {
-        Answer::TooOld => 0,
-        Answer::VersionsFull => 1,
-        Answer::Added => 2,
-        Answer::KeysFull => 3,
-        Answer::New => 4,
-        Answer::Found => 5,
-        Answer::None => 6,
     }
 }
 

@@ -7,12 +7,12 @@ ghost use mathlib.Core.Bool.{true};
 ghost use Rattle.model.specs.Layout.{topLevel};
 ghost use Rattle.model.specs.Calls.{processAfter};
 ghost use lib.Seq.{sets};
-use crate::numbers::answer_number;
 use crate::numbers::answer_of;
 use crate::numbers::kind_number;
 use crate::numbers::kind_of;
 use crate::numbers::phase_number;
 use crate::numbers::phase_of;
+use model::numbers::place_of;
 use model::types::Call;
 use model::types::Cursor;
 use model::types::Effect;
@@ -108,7 +108,7 @@ pub fn put_effect(w: &mut [u32], e: Effect)
     ensures { λ r. ⌜ now (w .exit) ≡ sets (now (w .entry)) 10 (effectWords e) ⌝ }
 {
     let answer = e.answer;
-    w[10] = answer_number(answer);
+    w[10] = place_of(answer);
     w[11] = e.tick;
 }
 

@@ -10,6 +10,9 @@ use Rattle.store.proofs.tally.count.Tie as tie
 place-of-requires : tie.Need-place-of-requires
 place-of-requires c κs = search needs
 
+cast-i : tie.Need-cast-i
+cast-i c = search needs
+
 mul-n : tie.Need-mul-n
 mul-n c = omega (arith, place-below (c .before .before .args .answer), c .place-of .ensures)
 
@@ -40,4 +43,4 @@ pub count-spec : {M : Type 1} → statement M
 count-spec =
     tie.close
     (tie.spec
-    place-of-requires mul-n slice-read-n add-tally mul-tally slice-write-tally same-length returns returns-2)
+    place-of-requires cast-i mul-n slice-read-n add-tally mul-tally slice-write-tally same-length returns returns-2)

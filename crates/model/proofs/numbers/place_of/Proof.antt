@@ -1,8 +1,8 @@
 -- Each arm of the match gives the definition's case.
 use Rattle.model.specs.Numbers.{placeOf}
 use borrow.Author.Needs.{needs}
-use Rattle.words.proofs.numbers.answer_number.Statement.{statement}
-use Rattle.words.proofs.numbers.answer_number.Tie as tie
+use Rattle.model.proofs.numbers.place_of.Statement.{statement}
+use Rattle.model.proofs.numbers.place_of.Tie as tie
 
 enum-told : tie.Need-enum-told
 enum-told c = search needs
@@ -53,8 +53,8 @@ returns-7 : tie.Need-returns-7
 unfolding placeOf
 returns-7 c = simp (c .enum-told7 .given .1)
 
-pub answer-number-spec : {M : Type 1} → statement M
-answer-number-spec =
+pub place-of-spec : {M : Type 1} → statement M
+place-of-spec =
     tie.close
     (tie.spec
     enum-told

@@ -1,0 +1,23 @@
+-- The start on lent words, its outcome told.
+use Rattle.embed.specs.Calls.{trayStartGet}
+use Rattle.embed.proofs.Laws.{start-told}
+use borrow.Author.Needs.{needs}
+use Rattle.embed.proofs.tray_start_get.Statement.{statement}
+use Rattle.embed.proofs.tray_start_get.Tie as tie
+
+start-get-in-requires : tie.Need-start-get-in-requires
+start-get-in-requires c κs = search needs
+
+tell-start-requires : tie.Need-tell-start-requires
+tell-start-requires c κs = search needs
+
+same-length : tie.Need-same-length
+same-length c = search needs
+
+returns : tie.Need-returns
+unfolding trayStartGet
+returns c = start-told _ _ _ _ (c .tell-start .ensures) (c .before .before .before .before .start-get-in .ensures)
+
+pub tray-start-get-spec : {M : Type 1} → statement M
+tray-start-get-spec =
+    tie.close (tie.spec start-get-in-requires tell-start-requires same-length returns)

@@ -1,0 +1,23 @@
+-- The start on lent words, its outcome told.
+use Rattle.embed.specs.Calls.{trayStartPut}
+use Rattle.embed.proofs.Laws.{start-told}
+use borrow.Author.Needs.{needs}
+use Rattle.embed.proofs.tray_start_put.Statement.{statement}
+use Rattle.embed.proofs.tray_start_put.Tie as tie
+
+start-put-in-requires : tie.Need-start-put-in-requires
+start-put-in-requires c κs = search needs
+
+tell-start-requires : tie.Need-tell-start-requires
+tell-start-requires c κs = search needs
+
+same-length : tie.Need-same-length
+same-length c = search needs
+
+returns : tie.Need-returns
+unfolding trayStartPut
+returns c = start-told _ _ _ _ (c .tell-start .ensures) (c .before .before .before .before .start-put-in .ensures)
+
+pub tray-start-put-spec : {M : Type 1} → statement M
+tray-start-put-spec =
+    tie.close (tie.spec start-put-in-requires tell-start-requires same-length returns)

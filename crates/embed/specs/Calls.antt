@@ -1,0 +1,75 @@
+-- The exported functions: the calls on lent words, their outcomes told in numbers.
+use Prim.Native.Nat.{ℕ, suc, _*_}
+use mathlib.Core.List.{List}
+use Rattle.model.specs.Choice.{if_then_else_}
+use Rattle.model.specs.Layout.{nodeWords, versionWords, limits}
+use Rattle.model.specs.State.{within}
+use Rattle.inplace.specs.Calls.{OpenIn, openIn, StartIn, startPutIn, startGetIn, StepIn, stepIn, lookIn, inspectIn, statusIn}
+use Rattle.embed.specs.Told.{Told, openTold, startTold, stepTold, lookTold, inspectTold, statusTold}
+
+-- ---- sizes to lend
+
+-- "a multiple of 16 words, 32 to 16,384, so K = 1 to 1,023 trays": 0 where there is no such table
+unfoldable pub trayNodeWords : (trays : ℕ) → ℕ
+trayNodeWords k = if within 1 (limits .nodes) k then nodeWords * suc k else 0
+
+-- "a multiple of 3 words, 6 to 12,288, so V = 1 to 4,095 readings"
+unfoldable pub trayReadingWords : (readings : ℕ) → ℕ
+trayReadingWords v = if within 1 (limits .versions) v then versionWords * suc v else 0
+
+-- ---- calls that write
+
+pub record TrayOpen : Type 0 where
+  pub number : ℕ
+  pub words : List ℕ
+  pub nodes : List ℕ
+  pub versions : List ℕ
+
+unfoldable pub openReply : OpenIn → TrayOpen
+openReply o = record { number = openTold (o .outcome); words = o .words; nodes = o .nodes; versions = o .versions }
+
+unfoldable pub trayOpen : (words nodes versions : List ℕ) (stations limit : ℕ) → TrayOpen
+trayOpen w nodes versions stations limit = openReply (openIn w nodes versions stations limit)
+
+pub record TrayStart : Type 0 where
+  pub told : Told
+  pub words : List ℕ
+
+unfoldable pub startReply : StartIn → TrayStart
+startReply s = record { told = startTold (s .outcome); words = s .words }
+
+unfoldable pub trayStartPut : (words nodes versions : List ℕ) (station tray value stamp draw : ℕ) → TrayStart
+trayStartPut w nodes versions i k v t draw = startReply (startPutIn w nodes versions i k v t draw)
+
+unfoldable pub trayStartGet : (words nodes versions : List ℕ) (station tray : ℕ) → TrayStart
+trayStartGet w nodes versions i k = startReply (startGetIn w nodes versions i k)
+
+pub record TrayStep : Type 0 where
+  pub told : Told
+  pub words : List ℕ
+  pub nodes : List ℕ
+  pub versions : List ℕ
+  pub tally : List ℕ
+
+unfoldable pub stepReply : StepIn → TrayStep
+stepReply s = record {
+  told = stepTold (s .outcome);
+  words = s .words;
+  nodes = s .nodes;
+  versions = s .versions;
+  tally = s .tally;
+}
+
+unfoldable pub trayStep : (words nodes versions tally : List ℕ) (station : ℕ) → TrayStep
+trayStep w nodes versions tally i = stepReply (stepIn w nodes versions tally i)
+
+-- ---- calls that write nothing but their answer
+
+unfoldable pub trayLook : (words nodes versions : List ℕ) (tray back : ℕ) → Told
+trayLook w nodes versions k back = lookTold (lookIn w nodes versions k back)
+
+unfoldable pub trayInspect : (words nodes versions : List ℕ) → Told
+trayInspect w nodes versions = inspectTold (inspectIn w nodes versions)
+
+unfoldable pub trayStanding : (words : List ℕ) (station : ℕ) → Told
+trayStanding w i = statusTold (statusIn w i)

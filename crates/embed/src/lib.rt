@@ -1,0 +1,166 @@
+// The part as C links it (include/tray_store.h): numbers and lent words in, a number and answer words out. The parameters
+// are named as the header names them. Whatever the words hold, no call asks anything of them.
+ghost use mathlib.Core.Path.{_≡_};
+ghost use mathlib.Core.List.{List, [], _∷_};
+ghost use Rattle.model.specs.Layout.{limits};
+ghost use Rattle.words.specs.Layout.{sizes};
+ghost use Rattle.embed.specs.Calls.{trayNodeWords, trayReadingWords, trayOpen, trayStartPut, trayStartGet, trayStep, trayLook, trayInspect, trayStanding};
+use crate::told::tell_inspect;
+use crate::told::tell_look;
+use crate::told::tell_open;
+use crate::told::tell_start;
+use crate::told::tell_status;
+use crate::told::tell_step;
+use inplace::open::open_in;
+use inplace::query::inspect_in;
+use inplace::query::look_in;
+use inplace::query::status_in;
+use inplace::start::start_get_in;
+use inplace::start::start_put_in;
+use inplace::step::step_in;
+use model::types::State;
+use permits::lawful::within;
+use words::types::Sizes;
+
+mod told;
+
+#[no_mangle]
+pub extern "C" fn tray_version() -> u32
+    ensures { λ r. ⌜ r ≡ sizes .version ⌝ }
+{
+    Sizes::VERSION
+}
+
+#[no_mangle]
+pub extern "C" fn tray_state_words() -> usize
+    ensures { λ r. ⌜ r ≡ sizes .state ⌝ }
+{
+    Sizes::STATE
+}
+
+#[no_mangle]
+pub extern "C" fn tray_tally_words() -> usize
+    ensures { λ r. ⌜ r ≡ limits .answers ⌝ }
+{
+    State::ANSWERS as usize
+}
+
+#[no_mangle]
+pub extern "C" fn tray_node_words(trays: u32) -> usize
+    ensures { λ r. ⌜ r ≡ trayNodeWords trays ⌝ }
+{
+    if within(1, State::NODES, trays) {
+        (State::NODE_WORDS * (trays + 1)) as usize
+    } else {
+        0
+    }
+}
+
+#[no_mangle]
+pub extern "C" fn tray_reading_words(readings: u32) -> usize
+    ensures { λ r. ⌜ r ≡ trayReadingWords readings ⌝ }
+{
+    if within(1, State::VERSIONS, readings) {
+        (State::VERSION_WORDS * (readings + 1)) as usize
+    } else {
+        0
+    }
+}
+
+#[no_mangle]
+pub extern "C" fn tray_open(
+    state: &mut [u32],
+    nodes: &mut [u32],
+    readings: &mut [u32],
+    stations: u32,
+    limit: u32,
+) -> u32
+    ensures { λ r. ⌜ record { number = r; words = now (state .exit); nodes = now (nodes .exit); versions = now (readings .exit) } ≡ trayOpen (now (state .entry)) (now (nodes .entry)) (now (readings .entry)) stations limit ⌝ }
+{
+    let outcome = open_in(state, nodes, readings, stations, limit);
+    tell_open(outcome)
+}
+
+#[no_mangle]
+pub extern "C" fn tray_start_put(
+    state: &mut [u32],
+    nodes: &[u32],
+    readings: &[u32],
+    station: u32,
+    tray: u32,
+    value: u32,
+    stamp: u32,
+    draw: u16,
+    tick: &mut u32,
+) -> u32
+    ensures { λ r. ⌜ record { told = record { number = r; answer = now (tick .exit) ∷ [] }; words = now (state .exit) } ≡ trayStartPut (now (state .entry)) (now (nodes .entry)) (now (readings .entry)) station tray value stamp draw ⌝ }
+{
+    let outcome = start_put_in(state, nodes, readings, station, tray, value, stamp, draw);
+    tell_start(outcome, tick)
+}
+
+#[no_mangle]
+pub extern "C" fn tray_start_get(
+    state: &mut [u32],
+    nodes: &[u32],
+    readings: &[u32],
+    station: u32,
+    tray: u32,
+    tick: &mut u32,
+) -> u32
+    ensures { λ r. ⌜ record { told = record { number = r; answer = now (tick .exit) ∷ [] }; words = now (state .exit) } ≡ trayStartGet (now (state .entry)) (now (nodes .entry)) (now (readings .entry)) station tray ⌝ }
+{
+    let outcome = start_get_in(state, nodes, readings, station, tray);
+    tell_start(outcome, tick)
+}
+
+#[no_mangle]
+pub extern "C" fn tray_step(
+    state: &mut [u32],
+    nodes: &mut [u32],
+    readings: &mut [u32],
+    tally: &mut [u32],
+    station: u32,
+    answer: &mut [u32; 8],
+) -> u32
+    ensures { λ r. ⌜ record { told = record { number = r; answer = now (answer .exit) }; words = now (state .exit); nodes = now (nodes .exit); versions = now (readings .exit); tally = now (tally .exit) } ≡ trayStep (now (state .entry)) (now (nodes .entry)) (now (readings .entry)) (now (tally .entry)) station ⌝ }
+{
+    let outcome = step_in(state, station, nodes, readings, tally);
+    tell_step(outcome, answer)
+}
+
+#[no_mangle]
+pub extern "C" fn tray_look(
+    state: &[u32],
+    nodes: &[u32],
+    readings: &[u32],
+    tray: u32,
+    back: u32,
+    answer: &mut [u32; 2],
+) -> u32
+    ensures { λ r. ⌜ record { number = r; answer = now (answer .exit) } ≡ trayLook (now (state .entry)) (now (nodes .entry)) (now (readings .entry)) tray back ⌝ }
+{
+    let outcome = look_in(state, nodes, readings, tray, back);
+    tell_look(outcome, answer)
+}
+
+#[no_mangle]
+pub extern "C" fn tray_inspect(
+    state: &[u32],
+    nodes: &[u32],
+    readings: &[u32],
+    answer: &mut [u32; 3],
+) -> u32
+    ensures { λ r. ⌜ record { number = r; answer = now (answer .exit) } ≡ trayInspect (now (state .entry)) (now (nodes .entry)) (now (readings .entry)) ⌝ }
+{
+    let outcome = inspect_in(state, nodes, readings);
+    tell_inspect(outcome, answer)
+}
+
+#[no_mangle]
+pub extern "C" fn tray_standing(state: &[u32], station: u32, answer: &mut [u32; 3]) -> u32
+    ensures { λ r. ⌜ record { number = r; answer = now (answer .exit) } ≡ trayStanding (now (state .entry)) station ⌝ }
+{
+    let outcome = status_in(state, station);
+    tell_status(outcome, answer)
+}
