@@ -1,8 +1,5 @@
-// One step of one call, on small records and the lent tables. The state is not seen here.
-mod lawful;
-mod lock;
+// The phases that search, and those that take and free a lock, on small records and the lent tables. The state is not seen here.
+pub mod lock;
 pub mod moves;
-mod put;
-mod search;
-pub mod turn;
+pub mod search;
 pub mod types;

@@ -19,7 +19,7 @@ use Rattle.model.specs.Calls.{stepPermit, Store, Stepped, evented, storeAfter, 
 use Rattle.model.proofs.Laws.{turn-keeps}
 use Rattle.tables.specs.Room.{Lent, memory}
 use Rattle.phases.specs.Turn.{refuses}
-use Rattle.phases.proofs.Laws.{lawful-facts}
+use Rattle.turn.proofs.Laws.{lawful-facts}
 use Rattle.permits.proofs.Laws.{MayStep}
 use Rattle.store.specs.Advance.{Advance, advanceBy, advanceOf}
 

@@ -13,7 +13,7 @@ use model::types::Process;
 use model::types::Refusal;
 use model::types::Stepping;
 use phases::moves::is_refusal;
-use phases::turn::turn;
+use turn::turn::turn;
 
 // `holder` is the process's number plus 1, `tick` that of this event.
 pub fn advance(

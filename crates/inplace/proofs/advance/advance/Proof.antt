@@ -4,7 +4,8 @@ use borrow.Author.Needs.{needs}
 use Rattle.model.specs.Phases.{turnOf}
 use Rattle.model.specs.Calls.{outcomeOf}
 use Rattle.tables.specs.Room.{memory}
-use Rattle.phases.specs.Turn.{leaves, process, refuses}
+use Rattle.phases.specs.Turn.{leaves, refuses}
+use Rattle.turn.specs.Process.{process}
 use Rattle.store.specs.Advance.{advanceOf}
 use Rattle.store.proofs.Laws.{level-fits}
 use Rattle.words.specs.Layout.{processFrom}

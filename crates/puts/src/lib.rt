@@ -1,0 +1,2 @@
+// The phases in which a put writes versions, nodes and links.
+pub mod put;

@@ -1,0 +1,87 @@
+// Refusal 11 "at any step": what the process alone shows.
+ghost use mathlib.Core.Path.{_≡_};
+ghost use mathlib.Core.List.{List};
+ghost use Prim.Native.Nat.{ℕ};
+ghost use Rattle.model.specs.declared.types.Kind.the-variants.{Put, Get};
+ghost use Rattle.model.specs.Phases.{fromPut, lawfulAt, lawfulProcess};
+ghost use Rattle.tables.specs.Room.{nodesIn};
+ghost use Rattle.turn.specs.Process.{process};
+use model::types::Answer;
+use model::types::Call;
+use model::types::Cursor;
+use model::types::Effect;
+use model::types::Kind;
+use model::types::Phase;
+use model::types::State;
+
+// The answers that a put gives.
+fn from_put(answer: Answer) -> bool
+    ensures { λ r. ⌜ r ≡ fromPut answer ⌝ }
+{
+    match answer {
+        Answer::TooOld => true,
+        Answer::VersionsFull => true,
+        Answer::Added => true,
+        Answer::KeysFull => true,
+        Answer::New => true,
+        Answer::Found => false,
+        Answer::None => false,
+    }
+}
+
+// A get walks and reads, and has no effect before its end.
+fn lawful_get(phase: Phase, e: Effect) -> bool
+    ensures { λ r. ⌜ r ≡ lawfulAt Get phase e ⌝ }
+{
+    match phase {
+        Phase::Walk => e.tick == 0,
+        Phase::Read => e.tick == 0,
+        Phase::Seek => false,
+        Phase::Lock => false,
+        Phase::Check => false,
+        Phase::Update => false,
+        Phase::Make => false,
+        Phase::Link => false,
+        Phase::Release => false,
+    }
+}
+
+// A put never reads; where it took effect, and at release, its answer is a put's.
+fn lawful_put(phase: Phase, e: Effect) -> bool
+    ensures { λ r. ⌜ r ≡ lawfulAt Put phase e ⌝ }
+{
+    let answer = e.answer;
+    let answered = from_put(answer);
+    let right = (e.tick == 0) | answered;
+    match phase {
+        Phase::Walk => right,
+        Phase::Read => false,
+        Phase::Seek => right,
+        Phase::Lock => right,
+        Phase::Check => right,
+        Phase::Update => right,
+        Phase::Make => right,
+        Phase::Link => right,
+        Phase::Release => answered,
+    }
+}
+
+fn lawful_at(kind: Kind, phase: Phase, e: Effect) -> bool
+    ensures { λ r. ⌜ r ≡ lawfulAt kind phase e ⌝ }
+{
+    match kind {
+        Kind::Idle => false,
+        Kind::Put => lawful_put(phase, e),
+        Kind::Get => lawful_get(phase, e),
+    }
+}
+
+// `used` is the last node in use.
+pub fn lawful(call: Call, c: Cursor, e: Effect, used: u32) -> bool
+    ensures { λ r. ⌜ ((preds nodes versions : List ℕ) (n : ℕ) → r ≡ lawfulProcess (process call c e preds) (nodesIn nodes used versions n)) ⌝ }
+{
+    let kind = call.kind;
+    let phase = c.phase;
+    let suited = lawful_at(kind, phase, e);
+    (c.level <= State::TOP) & (c.pred <= used) & suited
+}

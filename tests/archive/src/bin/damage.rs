@@ -1,0 +1,56 @@
+//! `damage [--calls N] [--from SEED]`: the archive's calls on random and altered words, each compared with the model's.
+//! Exit status 1 at the first difference, or where a kind of outcome was never met.
+
+use archive_tests::archive::ARCHIVE;
+use archive_tests::run::{Run, ENOUGH};
+use archive_tests::{sizes, watch};
+use std::process::ExitCode;
+use std::time::Instant;
+
+const USAGE: &str = "usage: damage [--calls N] [--from SEED]";
+
+struct Options {
+    calls: u64,
+    from: u64,
+}
+
+fn options(mut given: impl Iterator<Item = String>) -> Option<Options> {
+    let mut options = Options { calls: 400_000, from: 0 };
+    while let Some(word) = given.next() {
+        match word.as_str() {
+            "--calls" => options.calls = given.next()?.parse().ok()?,
+            "--from" => options.from = given.next()?.parse().ok()?,
+            _ => return None,
+        }
+    }
+    Some(options)
+}
+
+fn main() -> ExitCode {
+    let Some(options) = options(std::env::args().skip(1)) else {
+        eprintln!("{USAGE}");
+        return ExitCode::from(2);
+    };
+    watch::begin();
+    match sizes::check(&ARCHIVE).and_then(|()| compare(&options)) {
+        Ok(()) => ExitCode::SUCCESS,
+        Err(failure) => {
+            println!("{failure}");
+            ExitCode::FAILURE
+        }
+    }
+}
+
+fn compare(options: &Options) -> Result<(), String> {
+    let begun = Instant::now();
+    let mut run = Run::new(&ARCHIVE);
+    let next = run.calls(options.from, options.calls).map_err(|failure| failure.to_string())?;
+    println!("{}", run.met);
+    let (calls, seconds) = (run.calls, begun.elapsed().as_secs_f64());
+    println!("same: {calls} calls of seeds {} to {next}, the last not included, {seconds:.1} seconds", options.from);
+    if next - options.from < ENOUGH {
+        println!("fewer than {ENOUGH} seeds: not all kinds of outcome are asked for");
+        return Ok(());
+    }
+    run.met.complete()
+}

@@ -1,0 +1,77 @@
+//! The words that a store's calls are lent, and where the numbers of a state stand in them.
+
+use store_tests::model::{State, Store, LEVELS, STATE_WORDS};
+
+/// Word 0 of every state.
+pub const LAYOUT: u32 = 1;
+/// Words of a state: the layout's number, then those of the model.
+pub const STATE: usize = 1 + STATE_WORDS;
+/// Words before the first process.
+pub const HEAD: usize = 9;
+pub const PROCESS: usize = 12 + LEVELS;
+// Words of a process that are numbers of an enum, each with its greatest number.
+pub const KIND: usize = 0;
+pub const PHASE: usize = 6;
+pub const ANSWER: usize = 10;
+pub const NUMBERS: [(usize, u32); 3] = [(KIND, 2), (PHASE, 8), (ANSWER, 6)];
+
+#[derive(Clone, Copy, Debug, PartialEq, Eq)]
+pub enum Part {
+    State,
+    Nodes,
+    Versions,
+    Tally,
+}
+
+impl Part {
+    pub const ALL: [Part; 4] = [Part::State, Part::Nodes, Part::Versions, Part::Tally];
+
+    pub fn name(self) -> &'static str {
+        ["state", "node table", "reading table", "tally"][self as usize]
+    }
+}
+
+/// All that is lent but the answer's words: state, node table, reading table, tally.
+#[derive(Clone, Debug, PartialEq, Eq)]
+pub struct Words(pub [Vec<u32>; 4]);
+
+impl Words {
+    pub fn of(store: Store) -> Words {
+        Words([state_words(&store.state), store.node_table, store.version_table, store.tally])
+    }
+
+    pub fn part(&self, part: Part) -> &[u32] {
+        &self.0[part as usize]
+    }
+
+    pub fn part_mut(&mut self, part: Part) -> &mut Vec<u32> {
+        &mut self.0[part as usize]
+    }
+
+    pub fn state(&self) -> &[u32] {
+        self.part(Part::State)
+    }
+
+    /// A word of the state, 0 where the state is too short.
+    pub fn state_word(&self, index: usize) -> u32 {
+        self.state().get(index).copied().unwrap_or(0)
+    }
+
+    /// A word of a process, 0 where there is none.
+    pub fn process_word(&self, process: u32, word: usize) -> u32 {
+        self.state_word((process as usize).saturating_mul(PROCESS).saturating_add(HEAD + word))
+    }
+
+    pub fn is_running(&self, process: u32) -> bool {
+        self.process_word(process, KIND) != 0
+    }
+}
+
+pub fn state_words(state: &State) -> Vec<u32> {
+    [vec![LAYOUT], state.to_words()].concat()
+}
+
+/// The words of a process in a state.
+pub fn words_of(process: usize) -> std::ops::Range<usize> {
+    HEAD + process * PROCESS..HEAD + (process + 1) * PROCESS
+}

@@ -1,0 +1,99 @@
+import java.io.BufferedInputStream;
+import java.io.DataInputStream;
+import java.io.IOException;
+import java.util.Arrays;
+import java.util.concurrent.ConcurrentSkipListMap;
+import java.util.function.LongSupplier;
+
+/** ConcurrentSkipListMap with a list of versions, on the plan of standard input. Prints nanoseconds a call and the sum of answers. */
+final class Bench {
+    private static final int TOO_OLD = 0, VERSIONS_FULL = 1, ADDED = 2, KEYS_FULL = 3, NEW = 4, FOUND = 5, NONE = 6;
+    private static final int PUT = 1, WARM_UP = 200, ROUNDS = 301;
+
+    private record Version(int value, int timestamp, Version prev) {}
+
+    private final int keys, versions;
+    private ConcurrentSkipListMap<Integer, Version> map = new ConcurrentSkipListMap<>();
+    /** Counted here: the map's own size() walks it. */
+    private int made, held;
+    private long answers;
+
+    private Bench(int keys, int versions) {
+        this.keys = keys;
+        this.versions = versions;
+    }
+
+    public static void main(String[] arguments) throws IOException {
+        DataInputStream plan = new DataInputStream(new BufferedInputStream(System.in));
+        Bench bench = new Bench(plan.readInt(), plan.readInt());
+        int[][] fill = calls(plan), gets = calls(plan), puts = calls(plan);
+        report(fill.length, () -> bench.refill(fill));
+        report(gets.length, () -> bench.play(gets));
+        report(puts.length, () -> bench.play(puts));
+    }
+
+    private static int[][] calls(DataInputStream plan) throws IOException {
+        int[][] calls = new int[plan.readInt()][4];
+        for (int[] call : calls) {
+            for (int word = 0; word < 4; word++) {
+                call[word] = plan.readInt();
+            }
+        }
+        return calls;
+    }
+
+    private static void report(int calls, LongSupplier run) {
+        long[] taken = new long[ROUNDS];
+        long answers = 0;
+        for (int round = -WARM_UP; round < ROUNDS; round++) {
+            long from = System.nanoTime();
+            answers = run.getAsLong();
+            taken[Math.max(round, 0)] = System.nanoTime() - from;
+        }
+        Arrays.sort(taken);
+        System.out.println((double) taken[ROUNDS / 2] / calls + " " + Long.toUnsignedString(answers));
+    }
+
+    private long refill(int[][] fill) {
+        map = new ConcurrentSkipListMap<>();
+        made = 0;
+        held = 0;
+        return play(fill);
+    }
+
+    private long play(int[][] calls) {
+        answers = 0;
+        for (int index = 0; index < calls.length; index++) {
+            int[] call = calls[index];
+            if (call[0] == PUT) {
+                answered(index, put(call[1], call[2], call[3]), call[2], call[3]);
+            } else {
+                Version newest = map.get(call[1]);
+                answered(index, newest == null ? NONE : FOUND, newest == null ? 0 : newest.value, newest == null ? 0 : newest.timestamp);
+            }
+        }
+        return answers;
+    }
+
+    private int put(int key, int value, int timestamp) {
+        Version newest = map.get(key);
+        if (newest != null && Integer.compareUnsigned(timestamp, newest.timestamp) < 0) {
+            return TOO_OLD;
+        }
+        if (newest == null && made == keys) {
+            return KEYS_FULL;
+        }
+        if (held == versions) {
+            return VERSIONS_FULL;
+        }
+        map.put(key, new Version(value, timestamp, newest));
+        held++;
+        made += newest == null ? 1 : 0;
+        return newest == null ? NEW : ADDED;
+    }
+
+    private void answered(int index, int answer, int value, int timestamp) {
+        long words = ((long) value << 32 | Integer.toUnsignedLong(timestamp)) ^ (answer + 1) * 0x9E3779B97F4A7C15L;
+        answers += words * (2L * index + 1);
+    }
+}

@@ -1,0 +1,85 @@
+//! The calls of a workload, from a fixed seed: the same for every implementation.
+
+/// splitmix64: one seed, one row of numbers, on every machine.
+struct Random(u64);
+
+impl Random {
+    fn long(&mut self) -> u64 {
+        self.0 = self.0.wrapping_add(0x9E37_79B9_7F4A_7C15);
+        let mut z = self.0;
+        z = (z ^ (z >> 30)).wrapping_mul(0xBF58_476D_1CE4_E5B9);
+        z = (z ^ (z >> 27)).wrapping_mul(0x94D0_49BB_1331_11EB);
+        z ^ (z >> 31)
+    }
+
+    fn below(&mut self, bound: u32) -> u32 {
+        (((self.long() >> 32) * bound as u64) >> 32) as u32
+    }
+
+    /// A key of 31 bits: Java's integers order them as we do.
+    fn key(&mut self) -> u32 {
+        1 + self.below(0x7FFF_FFFE)
+    }
+}
+
+#[derive(Clone, Copy)]
+pub enum Kind {
+    Put { value: u32, timestamp: u32, draw: u16 },
+    Get,
+}
+
+#[derive(Clone, Copy)]
+pub struct Call {
+    pub key: u32,
+    pub kind: Kind,
+}
+
+pub struct Plan {
+    pub keys: u32,
+    pub versions: u32,
+    /// Puts that fill an empty store: every key made, every version used, in mixed order.
+    pub fill: Vec<Call>,
+    /// Gets on the full store, a quarter of them of keys that it does not have.
+    pub gets: Vec<Call>,
+    /// Puts on the full store, a quarter of them of new keys; a full store stays as it is.
+    pub puts: Vec<Call>,
+    pub inspections: u64,
+}
+
+const FIRST_TIMESTAMP: u32 = 1_000;
+
+impl Plan {
+    pub fn new(keys: u32, versions: u32, calls: usize, inspections: u64) -> Plan {
+        let mut random = Random(0x7E7_0001);
+        let mut made = Vec::new();
+        let fill = (0..versions).map(|at| fill_call(&mut random, &mut made, at, keys, versions)).collect();
+        let mut plan = Plan { keys, versions, fill, gets: Vec::new(), puts: Vec::new(), inspections };
+        for _ in 0..calls {
+            let key = if random.below(4) == 0 { random.key() } else { made[random.below(keys) as usize] };
+            plan.gets.push(Call { key, kind: Kind::Get });
+            let timestamp = FIRST_TIMESTAMP + random.below(2 * versions);
+            plan.puts.push(put(&mut random, key, timestamp));
+        }
+        plan
+    }
+}
+
+fn put(random: &mut Random, key: u32, timestamp: u32) -> Call {
+    let value = random.below(u32::MAX);
+    let draw = random.long() as u16;
+    Call { key, kind: Kind::Put { value, timestamp, draw } }
+}
+
+/// Put number `at` of a fill: new keys come evenly among versions added to keys that are there.
+fn fill_call(random: &mut Random, made: &mut Vec<u32>, at: u32, keys: u32, versions: u32) -> Call {
+    let due = (at as u64 * keys as u64).div_ceil(versions as u64).max(1);
+    let key = if (made.len() as u64) < due || versions - at <= keys - made.len() as u32 {
+        let key = random.key();
+        assert!(!made.contains(&key), "the seed gives a key twice");
+        made.push(key);
+        key
+    } else {
+        made[random.below(made.len() as u32) as usize]
+    };
+    put(random, key, FIRST_TIMESTAMP + at)
+}
