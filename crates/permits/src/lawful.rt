@@ -39,26 +39,43 @@ fn in_use(used: u32, all: u32) -> bool
     (used == 0) | (used < all)
 }
 
+// Left at the first fault: every step asks this.
 pub fn lawful_state(h: Header) -> bool
     ensures { λ r. ⌜ ((s : State) → headerOf s ≡ h → r ≡ lawfulState s) ⌝ }
 {
-    let nodes = h.lengths.nodes;
-    let versions = h.lengths.versions;
-    h.opened
-        & within(1, State::PROCESSES, h.processes)
-        & within(1, State::EVENTS, h.limit)
-        & (h.events <= h.limit)
-        & lawful_nodes(nodes as usize)
-        & lawful_versions(versions as usize)
-        & in_use(h.counts.nodes, nodes / State::NODE_WORDS)
-        & in_use(h.counts.versions, versions / State::VERSION_WORDS)
+    if !h.opened {
+        return false;
+    }
+    if !within(1, State::PROCESSES, h.processes) {
+        return false;
+    }
+    if !within(1, State::EVENTS, h.limit) {
+        return false;
+    }
+    if h.limit < h.events {
+        return false;
+    }
+    if !lawful_nodes(h.lengths.nodes as usize) {
+        return false;
+    }
+    if !lawful_versions(h.lengths.versions as usize) {
+        return false;
+    }
+    if !in_use(h.counts.nodes, h.lengths.nodes / State::NODE_WORDS) {
+        return false;
+    }
+    in_use(h.counts.versions, h.lengths.versions / State::VERSION_WORDS)
 }
 
 // The state is lawful, and the tables lent are of its lengths.
 pub fn lawful_store(h: Header, nodes: &[u32], versions: &[u32]) -> bool
     ensures { λ r. ⌜ ((s : State) → headerOf s ≡ h → r ≡ lawfulStore s (now (nodes .entry)) (now (versions .entry))) ⌝ }
 {
-    lawful_state(h)
-        & (nodes.len() == h.lengths.nodes as usize)
-        & (versions.len() == h.lengths.versions as usize)
+    if !lawful_state(h) {
+        return false;
+    }
+    if nodes.len() != h.lengths.nodes as usize {
+        return false;
+    }
+    versions.len() == h.lengths.versions as usize
 }

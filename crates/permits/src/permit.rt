@@ -83,7 +83,7 @@ pub fn start_permit(
     deny_unless(lawful, Refusal::Corrupt, five)
 }
 
-// `kind` is that of the process's call.
+// `kind` is that of the process's call. Left at the first refusal: it is asked most.
 pub fn step_permit(
     h: Header,
     kind: Kind,
@@ -94,14 +94,22 @@ pub fn step_permit(
 ) -> Permit
     ensures { λ r. ⌜ ((s : State) → Shows s process h kind → r ≡ stepPermit (storeOf s (now (nodes .entry)) (now (versions .entry)) (now (tally .entry))) process) ⌝ }
 {
-    let lawful = lawful_store(h, nodes, versions) & (tally.len() == State::ANSWERS as usize);
-    let no_process = h.processes <= process;
-    let no_call = is_idle(kind);
-    let spent = h.limit <= h.events;
-    let nine = deny_if(spent, Refusal::Spent, Permit::Granted);
-    let eight = deny_if(no_call, Refusal::NoCall, nine);
-    let five = deny_if(no_process, Refusal::NoProcess, eight);
-    deny_unless(lawful, Refusal::Corrupt, five)
+    if !lawful_store(h, nodes, versions) {
+        return Permit::Denied(Refusal::Corrupt);
+    }
+    if tally.len() != State::ANSWERS as usize {
+        return Permit::Denied(Refusal::Corrupt);
+    }
+    if h.processes <= process {
+        return Permit::Denied(Refusal::NoProcess);
+    }
+    if is_idle(kind) {
+        return Permit::Denied(Refusal::NoCall);
+    }
+    if h.limit <= h.events {
+        return Permit::Denied(Refusal::Spent);
+    }
+    Permit::Granted
 }
 
 pub fn look_permit(h: Header, nodes: &[u32], versions: &[u32], key: u32) -> Permit
