@@ -36,7 +36,7 @@ fn all_known(words: &[u32]) -> bool
 }
 
 // Whether the words are as many as a state's, of this layout, open or not.
-fn is_head(words: &[u32]) -> bool
+pub fn is_head(words: &[u32]) -> bool
     ensures { λ r. ⌜ r ≡ knownHead (now (words .entry)) ⌝ }
 {
     if words.len() != Sizes::STATE {
