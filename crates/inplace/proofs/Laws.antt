@@ -8,6 +8,7 @@ use lib.ListN.{length, getD, take, drop}
 use lib.Seq.{getD-take, getD-drop, drop-drop}
 use borrow.Rule.Slice.PartMut.{putMid, put-same}
 use Rattle.model.specs.declared.types.Call.{Call}
+use Rattle.model.specs.declared.types.Counts.{Counts}
 use Rattle.model.specs.declared.types.Move.{Move}
 use Rattle.model.specs.declared.types.Move.the-variants.{Refuse}
 use Rattle.model.specs.declared.types.Permit.{Permit}
@@ -23,8 +24,7 @@ use Rattle.model.specs.State.{processAt, withEvent}
 use Rattle.model.specs.Calls.{processAfter, outcomeOf, tallyAfter, begun, startBy, Store, stepPermit, stepBy, stepOf}
 use Rattle.tables.specs.Room.{memory}
 use Rattle.phases.specs.Turn.{refuses}
-use Rattle.permits.specs.declared.header.Header.{Header}
-use Rattle.permits.specs.Header.{headerOf, storeOf}
+use Rattle.permits.specs.Header.{storeOf}
 use Rattle.store.specs.Advance.{Advance, advanceBy, advanceOf}
 use Rattle.store.proofs.Laws.{refused-is, refused-advance, moved-advance, step-stays, step-moves}
 use Rattle.words.specs.Numbers.{kindOf}
@@ -107,14 +107,16 @@ module _ (w nodes versions tally : List ℕ) (i : ℕ) where
     -- what is left of the process that stands in its part of the words
     module _
         (j : ℕ)
-        (h : Header)
+        (events : ℕ)
+        (counts : Counts)
         (a : AdvanceIn)
-        (header : h ≡ headerOf (stateFrom w))
+        (now : events ≡ stateFrom w .events)
+        (used : counts ≡ stateFrom w .counts)
         (granted : stepPermit store i ≡ Granted)
         (slot : j ≡ i)
         (few : i < limits .processes)
-        (is : a ≡ advanceIn (i + 1) (h .events + 1) (take (startOf j + sizes .process - startOf j) (drop (startOf j) w))
-        (memory nodes versions (h .counts)) tally)
+        (is : a ≡ advanceIn (i + 1) (events + 1) (take (startOf j + sizes .process - startOf j) (drop (startOf j) w))
+        (memory nodes versions counts) tally)
       where
         abbrev lent : List ℕ
         lent = putMid (startOf j) (startOf j + sizes .process - startOf j) w (a .words)
@@ -128,9 +130,10 @@ module _ (w nodes versions tally : List ℕ) (i : ℕ) where
         same : a ≡ encoded advance
         unfolding advance
         same =
-            is ∙ ap (λ h. advanceIn (i + 1) (h .events + 1) (take (startOf j + 18 - startOf j) (drop (startOf j) w))
-            (memory nodes versions (h .counts)) tally) header
-            ∙ ap (λ p. encoded (advanceOf (i + 1) (stateFrom w .events + 1) p (memory nodes versions (stateFrom w .counts)) tally)) found
+            is
+            ∙ ap (λ e. advanceIn (i + 1) (e + 1) (take (startOf j + 18 - startOf j) (drop (startOf j) w)) (memory nodes versions counts) tally) now
+            ∙ ap (λ p. encoded (advanceOf (i + 1) (stateFrom w .events + 1) p (memory nodes versions counts) tally)) found
+            ∙ ap (λ k. encoded (advanceOf (i + 1) (stateFrom w .events + 1) (processAt (stateFrom w) j) (memory nodes versions k) tally)) used
 
         abbrev left : AdvanceIn → (words : List ℕ) → StepIn
         left a v = record {
@@ -166,18 +169,18 @@ module _ (w nodes versions tally : List ℕ) (i : ℕ) where
 
         -- moved: the part that it leaves, and the counts
         pub step-moves-in : (v : List ℕ) → length (a .words) ≡ sizes .process → a .refused ≡ false
-            → v ≡ putEvent lent (h .events + 1) (a .memory .counts) → left a v ≡ stepIn w nodes versions tally i
+            → v ≡ putEvent lent (events + 1) (a .memory .counts) → left a v ≡ stepIn w nodes versions tally i
         unfolding advance
         step-moves-in v long e put =
             let p = advance .process in
-            let counts = advance .memory .counts in
+            let after = advance .memory .counts in
             let long-p : length (processWords p) ≡ 18 = ap (λ a. length (a .words)) (sym same) ∙ long in
             ap (left a) put
-            ∙ ap (λ h. left a (putEvent lent (h .events + 1) (a .memory .counts))) header
+            ∙ ap (λ e. left a (putEvent lent (e + 1) (a .memory .counts))) now
             ∙ ap (λ a. left a (putEvent (putMid (startOf j) (startOf j + 18 - startOf j) w (a .words)) (stateFrom w .events + 1) (a .memory .counts))) same
-            ∙ ap (λ v. left (encoded advance) (putEvent v (stateFrom w .events + 1) counts))
+            ∙ ap (λ v. left (encoded advance) (putEvent v (stateFrom w .events + 1) after))
             (put-part w (processWords p) (startOf j) ∙ ap (λ k. putProcess w k (processWords p)) slot)
-            ∙ ap (left (encoded advance)) (written-event w i p counts known few long-p ∙ ap (λ k. written w i (withEvent (stateFrom w) k counts p)) (sym slot))
+            ∙ ap (left (encoded advance)) (written-event w i p after known few long-p ∙ ap (λ k. written w i (withEvent (stateFrom w) k after p)) (sym slot))
             ∙ ap (stepWritten w i) (step-moves store i j (stateFrom w .counts) slot refl granted advance refl (sym (ap (λ a. a .refused) same) ∙ e))
             ∙ in-words
 
@@ -205,23 +208,23 @@ module _ (w : List ℕ) (i : ℕ) (permit : Permit) (call : ℕ → Call) where
     begun-in e = simp (known, e)
 
     -- the process at its walk, put into its part, and the count of events
-    pub start-granted : (j : ℕ) (h : Header) (p v : List ℕ) → permit ≡ Granted → h ≡ headerOf (stateFrom w) → j ≡ i
-        → i < limits .processes → p ≡ processWords (begun (call (h .events + 1)))
-        → v ≡ putEvent (putMid (startOf j) (startOf j + sizes .process - startOf j) w p) (h .events + 1) (h .counts)
-        → record { outcome = Starting.Started (h .events + 1); words = v } ≡ begins
-    start-granted j h p v e header slot few is put =
+    pub start-granted : (j events : ℕ) (counts : Counts) (p v : List ℕ) → permit ≡ Granted → events ≡ stateFrom w .events
+        → counts ≡ stateFrom w .counts → j ≡ i → i < limits .processes → p ≡ processWords (begun (call (events + 1)))
+        → v ≡ putEvent (putMid (startOf j) (startOf j + sizes .process - startOf j) w p) (events + 1) counts
+        → record { outcome = Starting.Started (events + 1); words = v } ≡ begins
+    start-granted j events counts p v e now used slot few is put =
         let q = begun (call (stateFrom w .events + 1)) in
-        ap (λ v. record { outcome = Starting.Started (h .events + 1); words = v })
-        (put ∙ ap (λ p. putEvent (putMid (startOf j) (startOf j + 18 - startOf j) w p) (h .events + 1) (h .counts)) is)
-        ∙ ap (λ h. record {
-          outcome = Starting.Started (h .events + 1);
-          words = putEvent (putMid (startOf j) (startOf j + 18 - startOf j) w (processWords (begun (call (h .events + 1)))))
-              (h .events + 1) (h .counts);
+        ap (λ v. record { outcome = Starting.Started (events + 1); words = v })
+        (put ∙ ap (λ p. putEvent (putMid (startOf j) (startOf j + 18 - startOf j) w p) (events + 1) counts) is)
+        ∙ ap (λ e. record {
+          outcome = Starting.Started (e + 1);
+          words = putEvent (putMid (startOf j) (startOf j + 18 - startOf j) w (processWords (begun (call (e + 1))))) (e + 1) counts;
         })
-        header
+        now
         ∙ ap (λ v. record { outcome = Starting.Started (stateFrom w .events + 1); words = v })
-        (ap (λ v. putEvent v (stateFrom w .events + 1) (stateFrom w .counts))
+        (ap (λ v. putEvent v (stateFrom w .events + 1) counts)
         (put-part w (processWords q) (startOf j) ∙ ap (λ k. putProcess w k (processWords q)) slot)
+        ∙ ap (putEvent (putProcess w i (processWords q)) (stateFrom w .events + 1)) used
         ∙ event-words w i q (stateFrom w .counts) known few)
         ∙ begun-in e
 

@@ -11,7 +11,7 @@ use model::types::State;
 use model::types::Stepping;
 use permits::permit::step_permit;
 use words::numbers::kind_of;
-use words::state::header_in;
+use words::state::counts_in;
 use words::state::is_state_at;
 use words::state::put_event;
 use words::types::Sizes;
@@ -30,8 +30,14 @@ fn step_past(
     if !is_state_at(words, process) {
         return Stepping::Refused(Refusal::Corrupt);
     }
-    let h = header_in(words);
-    let permit = step_permit(h, Kind::Idle, nodes, versions, tally, process);
+    let permit = step_permit(
+        &words[1..Sizes::HEAD],
+        Kind::Idle,
+        nodes,
+        versions,
+        tally,
+        process,
+    );
     match permit {
         Permit::Denied(refusal) => Stepping::Refused(refusal),
         Permit::Granted => Stepping::Refused(Refusal::NoProcess),
@@ -53,18 +59,25 @@ pub fn step_in(
     if !is_state_at(words, process) {
         return Stepping::Refused(Refusal::Corrupt);
     }
-    let h = header_in(words);
     let at = Sizes::HEAD + Sizes::PROCESS * process as usize;
     let kind = kind_of(words[at]);
-    let permit = step_permit(h, kind, nodes, versions, tally, process);
+    let permit = step_permit(
+        &words[1..Sizes::HEAD],
+        kind,
+        nodes,
+        versions,
+        tally,
+        process,
+    );
     match permit {
         Permit::Denied(refusal) => Stepping::Refused(refusal),
         Permit::Granted => {
             let end = at + Sizes::PROCESS;
-            let tick = h.events + 1;
+            let tick = words[4] + 1;
+            let held = counts_in(words);
             let a = advance(
                 &mut words[at..end],
-                h.counts,
+                held,
                 process + 1,
                 tick,
                 nodes,

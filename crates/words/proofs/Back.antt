@@ -20,7 +20,8 @@ use Rattle.model.specs.Layout.{levels, limits}
 use Rattle.model.specs.Numbers.{placeOf}
 use Rattle.model.specs.State.{noProcess}
 use Rattle.words.specs.Numbers.{kindNumber, kindOf, phaseNumber, phaseOf, answerOf}
-use Rattle.words.specs.Layout.{sizes, processWords, allWords, stateWords, processFrom, allFrom, stateFrom, knownProcess, allKnown, isState, bit}
+use Rattle.words.specs.Layout.{sizes, processWords, allWords, stateWords, processFrom, allFrom, stateFrom, knownProcess, allKnown, isState}
+use Rattle.permits.specs.Header.{bit}
 use Rattle.words.proofs.Applied.{spelt}
 use Rattle.words.proofs.Laws.{heads}
 

@@ -13,7 +13,7 @@ use Rattle.permits.proofs.Laws.{MayStep, may-step}
 use Rattle.store.proofs.Laws.{lent-may-step}
 use Rattle.words.specs.Layout.{knownProcess, stateFrom, isStateAt, startOf, part}
 use Rattle.words.proofs.Known.{part-is, part-long}
-use Rattle.words.proofs.Written.{part-facts}
+use Rattle.words.proofs.Written.{part-facts, header-at, events-at}
 use Rattle.inplace.specs.Advance.{advanced}
 use Rattle.inplace.proofs.Laws.{kind-at, step-unknown, step-denied, step-stays-in, step-moves-in}
 use Rattle.inplace.proofs.step.step_in.Statement.{statement}
@@ -38,8 +38,8 @@ permit-is c =
     let a = start c .args in
     c .step-permit .ensures _
     (record {
-      same = sym (c .before .before .before .before .before .before .header-in .ensures);
-      found = λ h. kind-at (a .words .now) (a .process) (a .process) refl h ∙ sym (c .before .before .before .before .kind-of .ensures);
+      same = header-at (a .words .now) (a .process) (known (c .before .before .before .before .before .before .before .before));
+      found = λ h. kind-at (a .words .now) (a .process) (a .process) refl h ∙ sym (c .before .before .before .before .before .before .kind-of .ensures);
     })
 
 may : (c : tie.After-enum-told) → let a = start (c .before .before) .args in
@@ -62,7 +62,7 @@ same-length-4 : tie.Need-same-length-4
 same-length-4 c = search needs
 
 returns : tie.Need-returns
-returns c = search needs
+returns c = c .step-past .ensures
 
 is-state-at-requires : tie.Need-is-state-at-requires
 is-state-at-requires c κs = search needs
@@ -72,9 +72,6 @@ same-length-5 c = search needs
 
 returns-2 : tie.Need-returns-2
 returns-2 c = step-unknown _ _ _ _ _ (sym (c .before .is-state-at .ensures) ∙ not-true _ (c .if2 .taken))
-
-header-in-requires : tie.Need-header-in-requires
-header-in-requires c κs = long (c .before)
 
 mul-at : tie.Need-mul-at
 mul-at c = search needs
@@ -86,10 +83,19 @@ mul-kind-of : tie.Need-mul-kind-of
 mul-kind-of c = search needs
 
 slice-read-kind-of : tie.Need-slice-read-kind-of
-slice-read-kind-of c = let l = long (c .before .before .before) in let f = few (c .before .before .before) in search needs
+slice-read-kind-of c = let l = long (c .before) in let f = few (c .before) in search needs
 
 kind-of-requires : tie.Need-kind-of-requires
 kind-of-requires c κs = search needs
+
+sub-step-permit : tie.Need-sub-step-permit
+sub-step-permit c = search needs
+
+part-step-permit-start : tie.Need-part-step-permit-start
+part-step-permit-start c = search needs
+
+part-step-permit-end : tie.Need-part-step-permit-end
+part-step-permit-end c = let l = long (c .before .before .before) in omega arith
 
 step-permit-requires : tie.Need-step-permit-requires
 step-permit-requires c κs = search needs
@@ -103,12 +109,17 @@ enum-told c = search needs
 add-end : tie.Need-add-end
 add-end c = search needs
 
+slice-read-tick : tie.Need-slice-read-tick
+slice-read-tick c = let l = long (c .before .before .before .before .before .before .before .before .before .before .before) in omega arith
+
 add-tick : tie.Need-add-tick
 add-tick c =
     let f = may (c .before) .start in
     let l = f .lawful .limit in
-    let e = ap (λ h. h .events) (c .before .before .before .before .before .before .before .before .before .header-in .ensures) in
-    omega (arith, f .event, e)
+    omega (arith, f .event, events-at (start (c .before .before .before) .args .words .now))
+
+counts-in-requires : tie.Need-counts-in-requires
+counts-in-requires c κs = long (c .before .before .before .before .before .before .before .before .before .before .before .before)
 
 mul-advance : tie.Need-mul-advance
 mul-advance c = search needs
@@ -120,21 +131,21 @@ part-advance-start : tie.Need-part-advance-start
 part-advance-start c = search needs
 
 part-advance-end : tie.Need-part-advance-end
-part-advance-end c = let l = long (c .before .before .before .before .before .before .before .before .before .before .before) in let f = few (c .before .before .before .before .before .before .before .before .before .before .before) in omega arith
+part-advance-end c = let l = long (c .before .before .before .before .before .before .before .before .before .before .before .before .before) in let f = few (c .before .before .before .before .before .before .before .before .before .before .before .before .before) in omega arith
 
 add-advance : tie.Need-add-advance
-add-advance c = search needs
+add-advance c = let f = may (c .before .before .before .before) .start in let l = f .lawful .processes in omega (arith, f .process)
 
 advance-requires : tie.Need-advance-requires
 advance-requires c κs =
-    let e = c .before .before .before .before .before in
-    let k = c .before .before .before .before .before .before .before .before .before .before .before .before .before .before .before in
+    let e = c .before .before .before .before .before .before .before in
+    let k = c .before .before .before .before .before .before .before .before .before .before .before .before .before .before .before .before .before in
     let a = start (e .before .before) .args in
     let at = startOf (a .process) in
     let l = long k in
     let own = ap knownProcess (part-is (a .words .now) at) ∙ part-facts (a .words .now) (a .process) (known k) .1 in
     let f = may e in
-    (part-long (a .words .now) at (omega (arith, few k)), (own, (simp (c .before .before .before .before .before .before .before .before .before .before .before .before .before .header-in .ensures) (lent-may-step _ _ f), f .tally)))
+    (part-long (a .words .now) at (omega (arith, few k)), (own, (simp (c .before .before .before .before .counts-in .ensures) (lent-may-step _ _ f), f .tally)))
 
 same-length-6 : tie.Need-same-length-6
 same-length-6 c = search needs
@@ -150,18 +161,18 @@ same-length-9 c = search needs
 
 returns-3 : tie.Need-returns-3
 returns-3 c =
-    let e = c .before .before .before .before .before .before .before .before .before .before .before .before .before .before .before in
-    let k = c .before .before .before .before .before .before .before .before .before .before .before .before .before .before .before .before .before .before .before .before .before .before .before .before .before in
-    step-stays-in _ _ _ _ _ (known k) _ _ (advanced (c .before .before .before .before .before .before .before .before .before .advance .result) _ _ _ _) (c .before .before .before .before .before .before .before .before .before .before .before .before .before .before .before .before .before .before .before .before .before .before .before .header-in .ensures)
-    (sym (permit-is (e .before .before)) ∙ e .enum-told .given .1) refl (few k) (c .before .before .before .before .before .before .before .before .before .advance .ensures) (c .if3 .taken)
+    let e = c .before .before .before .before .before .before .before .before .before .before .before .before .before .before .before .before .before in
+    let k = c .before .before .before .before .before .before .before .before .before .before .before .before .before .before .before .before .before .before .before .before .before .before .before .before .before .before .before in
+    step-stays-in _ _ _ _ _ (known k) _ _ _ (advanced (c .before .before .before .before .before .before .before .before .before .advance .result) _ _ _ _) (events-at (start (e .before .before) .args .words .now))
+    (c .before .before .before .before .before .before .before .before .before .before .before .before .before .before .counts-in .ensures) (sym (permit-is (e .before .before)) ∙ e .enum-told .given .1) refl (few k) (c .before .before .before .before .before .before .before .before .before .advance .ensures) (c .if3 .taken)
 
 put-event-requires : tie.Need-put-event-requires
 put-event-requires c κs =
-    let e = c .before .before .before .before .before .before .before .before .before .before .before .before .before .before .before .before .before in
+    let e = c .before .before .before .before .before .before .before .before .before .before .before .before .before .before .before .before .before .before .before in
     let a = start (e .before .before) .args in
     let at = startOf (a .process) in
     let v = c .before .before .before .before .before .before .before .before .before .before .before .advance in
-    same-len-mid at (at + 18 - at) (a .words .now) (v .last .0) (v .kept .0) ∙ long (c .before .before .before .before .before .before .before .before .before .before .before .before .before .before .before .before .before .before .before .before .before .before .before .before .before .before .before)
+    same-len-mid at (at + 18 - at) (a .words .now) (v .last .0) (v .kept .0) ∙ long (c .before .before .before .before .before .before .before .before .before .before .before .before .before .before .before .before .before .before .before .before .before .before .before .before .before .before .before .before .before)
 
 same-length-10 : tie.Need-same-length-10
 same-length-10 c = search needs
@@ -192,11 +203,11 @@ same-length-17 c = search needs
 
 returns-5 : tie.Need-returns-5
 returns-5 c =
-    let e = c .before .before .before .before .before .before .before .before .before .before .before .before .before .before .before .before .before .before .before .before in
-    let k = c .before .before .before .before .before .before .before .before .before .before .before .before .before .before .before .before .before .before .before .before .before .before .before .before .before .before .before .before .before .before in
+    let e = c .before .before .before .before .before .before .before .before .before .before .before .before .before .before .before .before .before .before .before .before .before .before in
+    let k = c .before .before .before .before .before .before .before .before .before .before .before .before .before .before .before .before .before .before .before .before .before .before .before .before .before .before .before .before .before .before .before .before in
     let a = start (e .before .before) .args in
     let l = long k in
-    step-moves-in _ _ _ _ _ (known k) _ _ (advanced (c .before .before .before .before .before .before .before .before .before .before .before .before .before .before .advance .result) _ _ _ _) (c .before .before .before .before .before .before .before .before .before .before .before .before .before .before .before .before .before .before .before .before .before .before .before .before .before .before .before .before .header-in .ensures)
+    step-moves-in _ _ _ _ _ (known k) _ _ _ (advanced (c .before .before .before .before .before .before .before .before .before .before .before .before .before .before .advance .result) _ _ _ _) (events-at (a .words .now)) (c .before .before .before .before .before .before .before .before .before .before .before .before .before .before .before .before .before .before .before .counts-in .ensures)
     (sym (permit-is (e .before .before)) ∙ e .enum-told .given .1) refl (few k) (c .before .before .before .before .before .before .before .before .before .before .before .before .before .before .advance .ensures) _
     (c .before .before .before .before .before .before .before .before .before .before .before .before .before .before .advance .kept .0 ∙ part-long (a .words .now) (startOf (a .process)) (omega (arith, few k))) (c .before .before .before .before .before .if3 .left)
     (c .before .before .put-event .ensures)
@@ -214,17 +225,21 @@ step-in-spec =
     is-state-at-requires
     same-length-5
     returns-2
-    header-in-requires
     mul-at
     add-at
     mul-kind-of
     slice-read-kind-of
     kind-of-requires
+    sub-step-permit
+    part-step-permit-start
+    part-step-permit-end
     step-permit-requires
     enum-known-permit
     enum-told
     add-end
+    slice-read-tick
     add-tick
+    counts-in-requires
     mul-advance
     sub-advance
     part-advance-start

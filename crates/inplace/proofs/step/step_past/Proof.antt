@@ -9,7 +9,7 @@ use Rattle.model.specs.Calls.{stepPermit}
 use Rattle.permits.specs.Header.{storeOf}
 use Rattle.permits.proofs.Laws.{may-step}
 use Rattle.words.specs.Layout.{stateFrom, isStateAt}
-use Rattle.words.proofs.Written.{part-facts}
+use Rattle.words.proofs.Written.{part-facts, header-at}
 use Rattle.inplace.proofs.Laws.{step-unknown, step-denied}
 use Rattle.inplace.proofs.step.step_past.Statement.{statement}
 use Rattle.inplace.proofs.step.step_past.Tie as tie
@@ -20,10 +20,11 @@ known c = sym (c .before .is-state-at .ensures) ∙ not-false _ (c .if1 .left)
 permit-is : (c : tie.After-step-permit) → let a = c .before .before .before .before .before .before .before .before .args in
     c .step-permit .result ≡ stepPermit (storeOf (stateFrom (a .words .now)) (a .nodes .now) (a .versions .now) (a .tally .now)) (a .process)
 permit-is c =
-    let past = c .before .before .before .before .before .before .before .before .pre in
+    let s = c .before .before .before .before .before .before .before .before in
+    let past = s .pre in
     c .step-permit .ensures _
     (record {
-      same = sym (c .before .header-in .ensures);
+      same = header-at (s .args .words .now) (s .args .process) (known (c .before .before));
       found = λ h. let z : _≡_ {A = ℕ} 0 1 = omega (arith, h, past) in cc;
     })
 
@@ -33,8 +34,14 @@ is-state-at-requires c κs = search needs
 returns : tie.Need-returns
 returns c = step-unknown _ _ _ _ _ (sym (c .before .is-state-at .ensures) ∙ not-true _ (c .if1 .taken))
 
-header-in-requires : tie.Need-header-in-requires
-header-in-requires c κs = let a = c .before .before .before .before .before .before .args in part-facts (a .words .now) (a .process) (known c) .0
+sub-step-permit : tie.Need-sub-step-permit
+sub-step-permit c = search needs
+
+part-step-permit-start : tie.Need-part-step-permit-start
+part-step-permit-start c = search needs
+
+part-step-permit-end : tie.Need-part-step-permit-end
+part-step-permit-end c = let a = c .before .before .before .before .before .before .args in let l = part-facts (a .words .now) (a .process) (known c) .0 in omega arith
 
 step-permit-requires : tie.Need-step-permit-requires
 step-permit-requires c κs = search needs
@@ -61,7 +68,9 @@ step-past-spec =
     (tie.spec
     is-state-at-requires
     returns
-    header-in-requires
+    sub-step-permit
+    part-step-permit-start
+    part-step-permit-end
     step-permit-requires
     enum-known-permit
     enum-told
