@@ -16,9 +16,6 @@ use store::tally::count_end;
 use turn::turn::turn;
 use words::process::apply;
 use words::process::call_in;
-use words::process::cursor_in;
-use words::process::effect_in;
-use words::process::preds_in;
 
 // `holder` is the process's number plus 1, `tick` that of this event.
 pub fn advance(
@@ -37,20 +34,7 @@ pub fn advance(
     ensures { λ r. ⌜ advanced r (now (w .exit)) (now (nodes .exit)) (now (versions .exit)) (now (tally .exit)) ≡ advanceIn holder tick (now (w .entry)) (memory (now (nodes .entry)) (now (versions .entry)) counts) (now (tally .entry)) ⌝ }
 {
     let call = call_in(w);
-    let cursor = cursor_in(w);
-    let effect = effect_in(w);
-    let preds = preds_in(w);
-    let t = turn(
-        call,
-        cursor,
-        effect,
-        preds,
-        counts,
-        holder,
-        tick,
-        nodes,
-        versions,
-    );
+    let t = turn(w, counts, holder, tick, nodes, versions);
     let mv = t.mv;
     let left = t.counts;
     if is_refusal(mv) {

@@ -56,6 +56,9 @@ answer-from None = (refl, refl)
 pub process-long : (p : Process) → length (p .preds) ≡ levels → length (processWords p) ≡ sizes .process
 process-long p h = simp h
 
+pub process-short : (p : Process) → length (processWords p) ≡ sizes .process → length (p .preds) ≡ levels
+process-short p h = omega (arith, h)
+
 -- its words with the remembered nodes by name
 by-name : (p : Process) → length (p .preds) ≡ levels → processWords (record {
   call = p .call;
