@@ -33,7 +33,6 @@ pub fn advance(
     requires { ⌜ length (now tally) ≡ limits .answers ⌝ }
     ensures { λ r. ⌜ advanced r (now (w .exit)) (now (nodes .exit)) (now (versions .exit)) (now (tally .exit)) ≡ advanceIn holder tick (now (w .entry)) (memory (now (nodes .entry)) (now (versions .entry)) counts) (now (tally .entry)) ⌝ }
 {
-    let call = call_in(w);
     let t = turn(w, counts, holder, tick, nodes, versions);
     let mv = t.mv;
     let left = t.counts;
@@ -45,8 +44,9 @@ pub fn advance(
         };
     }
     count_end(tally, mv);
-    apply(w, tick, mv);
+    let call = call_in(w);
     let outcome = outcome_of(tick, call, mv);
+    apply(w, tick, mv);
     Advanced {
         refused: false,
         outcome,

@@ -39,37 +39,52 @@ fn run(
     ensures { λ r. ⌜ leaves r (now (nodes .exit)) (now (versions .exit)) ≡ phaseOf (processFrom (now (w .entry)) .cursor .phase) holder tick (processFrom (now (w .entry))) (memory (now (nodes .entry)) (now (versions .entry)) counts) ⌝ }
 {
     let c = cursor_in(w);
-    let call = call_in(w);
     let phase = c.phase;
     let used = counts.nodes;
     match phase {
-        Phase::Walk => Turned {
-            mv: walk(call, c, tick, used, nodes),
-            counts,
-        },
+        Phase::Walk => {
+            let call = call_in(w);
+            Turned {
+                mv: walk(call, c, tick, used, nodes),
+                counts,
+            }
+        }
         Phase::Read => Turned {
             mv: read(c, tick, used, counts.versions, nodes, versions),
             counts,
         },
-        Phase::Seek => Turned {
-            mv: seek(call, c, used, nodes),
-            counts,
-        },
+        Phase::Seek => {
+            let call = call_in(w);
+            Turned {
+                mv: seek(call, c, used, nodes),
+                counts,
+            }
+        }
         Phase::Lock => Turned {
             mv: acquire(c, holder, nodes),
             counts,
         },
-        Phase::Check => Turned {
-            mv: check(call, c, used, nodes),
-            counts,
-        },
-        Phase::Update => update(call, c, counts, nodes, versions),
-        Phase::Make => make(call, c, counts, nodes, versions),
+        Phase::Check => {
+            let call = call_in(w);
+            Turned {
+                mv: check(call, c, used, nodes),
+                counts,
+            }
+        }
+        Phase::Update => {
+            let call = call_in(w);
+            update(call, c, counts, nodes, versions)
+        }
+        Phase::Make => {
+            let call = call_in(w);
+            make(call, c, counts, nodes, versions)
+        }
         Phase::Link => Turned {
             mv: link(c, used, nodes),
             counts,
         },
         Phase::Release => {
+            let call = call_in(w);
             let e = effect_in(w);
             let preds = preds_in(w);
             Turned {

@@ -11,10 +11,7 @@ use Rattle.inplace.proofs.advance.advance.Statement.{statement}
 use Rattle.inplace.proofs.advance.advance.Tie as tie
 
 abbrev start : tie.After-turn → tie.Start
-start c = c .before .before .before .before .before .before .before .before .before .before
-
-call-in-requires : tie.Need-call-in-requires
-call-in-requires c κs = search needs
+start c = c .before .before .before .before .before .before .before .before
 
 turn-requires : tie.Need-turn-requires
 turn-requires c κs = search needs
@@ -42,15 +39,18 @@ returns c =
 count-end-requires : tie.Need-count-end-requires
 count-end-requires c κs = search needs
 
-apply-requires : tie.Need-apply-requires
-apply-requires c κs =
-    let t = c .before .before .before .before .before .before .before .before .before .before .before .before in
-    let s = start t in
-    let still = sym (ap (λ v. refuses (v .move)) (t .turn .ensures)) ∙ sym (c .before .before .before .before .before .before .is-refusal .ensures) ∙ c .before .before .before .before .before .if1 .left in
-    (s .pre .0, (s .pre .1 .0, level-fits _ _ _ _ still))
+call-in-requires : tie.Need-call-in-requires
+call-in-requires c κs = search needs
 
 outcome-of-requires : tie.Need-outcome-of-requires
 outcome-of-requires c κs = search needs
+
+apply-requires : tie.Need-apply-requires
+apply-requires c κs =
+    let t = c .before .before .before .before .before .before .before .before .before .before .before .before .before .before .before in
+    let s = start t in
+    let still = sym (ap (λ v. refuses (v .move)) (t .turn .ensures)) ∙ sym (c .before .before .before .before .before .before .before .before .before .is-refusal .ensures) ∙ c .before .before .before .before .before .before .before .before .if1 .left in
+    (s .pre .0, (s .pre .1 .0, level-fits _ _ _ _ still))
 
 same-length-4 : tie.Need-same-length-4
 same-length-4 c = search needs
@@ -67,17 +67,17 @@ same-length-7 c = search needs
 returns-2 : tie.Need-returns-2
 unfolding advanceOf
 returns-2 c =
-    let t = c .before .before .before .before .before .before .before .before .before .before .before .before .before .before .before .before in
+    let t = c .before .before .before .before .before .before .before .before .before .before .before .before .before .before .before .before .before .before in
     let a = start t .args in
-    moved-in (a .tick) _ _ _ _ _ _ (t .turn .ensures) _ _ (sym (c .before .before .before .before .before .before .before .before .before .before .is-refusal .ensures) ∙ c .before .before .before .before .before .before .before .before .before .if1 .left)
-    (c .outcome-of .ensures ∙ ap (λ k. outcomeOf (a .tick) k (t .turn .result .mv)) (t .before .before .before .before .call-in .ensures))
-    (c .before .before .before .apply .ensures) (c .before .before .before .before .before .before .before .count-end .ensures)
+    let o = c .before .before .before .before in
+    moved-in (a .tick) _ _ _ _ _ _ (t .turn .ensures) _ _ (sym (c .before .before .before .before .before .before .before .before .before .before .before .before .is-refusal .ensures) ∙ c .before .before .before .before .before .before .before .before .before .before .before .if1 .left)
+    (o .outcome-of .ensures ∙ ap (λ k. outcomeOf (a .tick) k (t .turn .result .mv)) (o .before .call-in .ensures))
+    (c .before .before .apply .ensures) (c .before .before .before .before .before .before .before .before .before .count-end .ensures)
 
 pub advance-spec : {M : Type 1} → statement M
 advance-spec =
     tie.close
     (tie.spec
-    call-in-requires
     turn-requires
     is-refusal-requires
     same-length
@@ -85,8 +85,9 @@ advance-spec =
     same-length-3
     returns
     count-end-requires
-    apply-requires
+    call-in-requires
     outcome-of-requires
+    apply-requires
     same-length-4
     same-length-5
     same-length-6
