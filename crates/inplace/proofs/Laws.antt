@@ -1,6 +1,6 @@
 -- Steps and starts in place: what is left of one process, put into the words, is what the store's call leaves, encoded.
 use Prim.Native.Nat.{ℕ, _+_, _-_, _*_, _<_}
-use mathlib.Core.Bool.{true, false}
+use mathlib.Core.Bool.{Bool, true, false}
 use mathlib.Core.List.{List}
 use mathlib.Core.Path.{_≡_, refl, sym, ap, _∙_}
 use native.Mathlib.Omega.{arith}
@@ -20,19 +20,19 @@ use Rattle.model.specs.declared.types.Starting.{Starting}
 use Rattle.model.specs.declared.types.Stepping.{Stepping}
 use Rattle.model.specs.Layout.{Memory, limits}
 use Rattle.model.specs.Phases.{Moved, moved, turnOf}
-use Rattle.model.specs.State.{processAt, withEvent}
+use Rattle.model.specs.State.{processAt, withEvent, lawfulStore}
 use Rattle.model.specs.Calls.{processAfter, outcomeOf, tallyAfter, begun, startBy, Store, stepPermit, stepBy, stepOf}
 use Rattle.tables.specs.Room.{memory}
 use Rattle.phases.specs.Turn.{refuses}
-use Rattle.permits.specs.Header.{storeOf}
+use Rattle.permits.specs.Header.{headerWords, headerOf, storeOf}
 use Rattle.store.specs.Advance.{Advance, advanceBy, advanceOf}
 use Rattle.store.proofs.Laws.{refused-is, refused-advance, moved-advance, step-stays, step-moves}
 use Rattle.words.specs.Numbers.{kindOf}
-use Rattle.words.specs.Layout.{sizes, processWords, stateWords, processFrom, stateFrom, knownProcess, isState, isStateAt, startOf, part, written}
+use Rattle.words.specs.Layout.{sizes, processWords, stateWords, processFrom, stateFrom, knownProcess, knownHead, isState, isStateAt, startOf, part, written}
 use Rattle.words.proofs.Laws.{process-back, process-at, state-facts, state-back, putProcess, putEvent, event-words}
-use Rattle.words.proofs.Known.{part-is, part-long}
+use Rattle.words.proofs.Known.{part-is, part-long, by-none}
 use Rattle.words.proofs.Whole.{put-part}
-use Rattle.words.proofs.Written.{part-facts, written-same, written-event}
+use Rattle.words.proofs.Written.{part-facts, header-at, written-same, written-event}
 use Rattle.inplace.specs.Advance.{AdvanceIn, encoded, advanceIn}
 use Rattle.inplace.specs.Calls.{StartIn, startUnless, StepIn, stepWritten, stepIn}
 
@@ -92,6 +92,10 @@ module _ (w nodes versions tally : List ℕ) (i : ℕ) where
   unfolding stepIn
   step-unknown e = simp e
 
+  pub step-headless : knownHead w ≡ false → unchanged Corrupt w nodes versions tally ≡ stepIn w nodes versions tally i
+  unfolding isStateAt
+  step-headless e = step-unknown (simp e)
+
   module _ (known : isStateAt w i ≡ true) where
     in-words : stepWritten w i (stepOf store i) ≡ stepIn w nodes versions tally i
     unfolding stepIn
@@ -103,6 +107,10 @@ module _ (w nodes versions tally : List ℕ) (i : ℕ) where
 
     pub step-denied : (r : Refusal) → stepPermit store i ≡ Denied r → unchanged r w nodes versions tally ≡ stepIn w nodes versions tally i
     step-denied r e = denied r e ∙ in-words
+
+    denied-corrupt : lawfulStore (stateFrom w) nodes versions ≡ false → stepPermit store i ≡ Denied Corrupt
+    unfolding stepPermit
+    denied-corrupt e = simp e
 
     -- what is left of the process that stands in its part of the words
     module _
@@ -183,6 +191,19 @@ module _ (w nodes versions tally : List ℕ) (i : ℕ) where
             ∙ ap (left (encoded advance)) (written-event w i p after known few long-p ∙ ap (λ k. written w i (withEvent (stateFrom w) k after p)) (sym slot))
             ∙ ap (stepWritten w i) (step-moves store i j (stateFrom w .counts) slot refl granted advance refl (sym (ap (λ a. a .refused) same) ∙ e))
             ∙ in-words
+
+-- whatever the process's words are, an unlawful head is refused 10
+pub step-unlawful : (w nodes versions tally : List ℕ) (i : ℕ) → lawfulStore (stateFrom w) nodes versions ≡ false
+    → unchanged Corrupt w nodes versions tally ≡ stepIn w nodes versions tally i
+step-unlawful w nodes versions tally i e = cases (isStateAt w i) refl
+  where
+    cases : (b : Bool) → isStateAt w i ≡ b → unchanged Corrupt w nodes versions tally ≡ stepIn w nodes versions tally i
+    cases false k = step-unknown w nodes versions tally i k
+    cases true k = step-denied w nodes versions tally i k Corrupt (denied-corrupt w nodes versions tally i k e)
+
+-- the header behind a known first word
+pub header-known : (w : List ℕ) → knownHead w ≡ true → headerOf (stateFrom w) ≡ take headerWords (drop 1 w)
+header-known w k = header-at w 8 (sym (by-none w 8 (knownHead w) refl k (omega arith)))
 
 -- ---- start
 

@@ -9,9 +9,11 @@ use model::types::Permit;
 use model::types::Refusal;
 use model::types::State;
 use model::types::Stepping;
+use permits::lawful::lawful_store;
 use permits::permit::step_permit;
 use words::numbers::kind_of;
 use words::state::counts_in;
+use words::state::is_head;
 use words::state::is_state_at;
 use words::state::put_event;
 use words::types::Sizes;
@@ -55,6 +57,13 @@ pub fn step_in(
 {
     if State::PROCESSES <= process {
         return step_past(words, process, nodes, versions, tally);
+    }
+    if !is_head(words) {
+        return Stepping::Refused(Refusal::Corrupt);
+    }
+    // The head before the process, whose words then need not be kept.
+    if !lawful_store(&words[1..Sizes::HEAD], nodes, versions) {
+        return Stepping::Refused(Refusal::Corrupt);
     }
     if !is_state_at(words, process) {
         return Stepping::Refused(Refusal::Corrupt);
