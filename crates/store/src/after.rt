@@ -1,9 +1,9 @@
-// What a move leaves of its process, and what the step answers.
+// What a move leaves of its process and of the tally, and what the step answers.
 ghost use mathlib.Core.Path.{_≡_};
 ghost use Prim.Native.Nat.{_≤_};
-ghost use lib.ListN.{set};
-ghost use Rattle.model.specs.Layout.{topLevel};
-ghost use Rattle.model.specs.Calls.{processAfter, outcomeOf};
+ghost use lib.ListN.{length, set};
+ghost use Rattle.model.specs.Layout.{limits, topLevel};
+ghost use Rattle.model.specs.Calls.{processAfter, outcomeOf, tallyAfter};
 use model::types::Call;
 use model::types::Effect;
 use model::types::Finish;
@@ -11,6 +11,7 @@ use model::types::Move;
 use model::types::Process;
 use model::types::Refusal;
 use model::types::Stepping;
+use tally::count::count;
 
 // The process with its predecessor remembered at its level.
 fn remember(p: Process) -> [u32; 6]
@@ -80,5 +81,20 @@ pub fn outcome_of(tick: u32, call: Call, mv: Move) -> Stepping
             effect,
             finish: tick,
         }),
+    }
+}
+
+// A move that ends its call is counted.
+pub fn count_end(tally: &mut [u32], mv: Move)
+    requires { ⌜ length (now tally) ≡ limits .answers ⌝ }
+    ensures { λ r. ⌜ now (tally .exit) ≡ tallyAfter (now (tally .entry)) mv ⌝ }
+{
+    match mv {
+        Move::Refuse => {}
+        Move::Wait => {}
+        Move::Go(_) => {}
+        Move::Note(_) => {}
+        Move::Commit(_, _) => {}
+        Move::End(answer, _, _) => count(tally, answer),
     }
 }

@@ -1,8 +1,8 @@
 -- Only a move that ends its call is counted.
 use Rattle.model.specs.Calls.{tallyAfter}
 use borrow.Author.Needs.{needs}
-use Rattle.store.proofs.tally.count_end.Statement.{statement}
-use Rattle.store.proofs.tally.count_end.Tie as tie
+use Rattle.store.proofs.after.count_end.Statement.{statement}
+use Rattle.store.proofs.after.count_end.Tie as tie
 
 enum-told : tie.Need-enum-told
 enum-told c = search needs

@@ -1,0 +1,4 @@
+pub mod Laws
+pub mod Loan
+pub mod Values
+pub mod Walk

@@ -1,0 +1,4 @@
+// The tally: seven counts, one an answer. A struct of them is lent by `&mut` to `grow`; every other caller lends seven words to `count`.
+pub mod count;
+pub mod grow;
+pub mod types;

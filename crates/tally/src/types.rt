@@ -1,0 +1,10 @@
+// Finished calls of each answer, in the order of `Answer`.
+pub struct Tally {
+    pub too_old: u32,
+    pub versions_full: u32,
+    pub added: u32,
+    pub keys_full: u32,
+    pub new: u32,
+    pub found: u32,
+    pub none: u32,
+}
