@@ -1,0 +1,90 @@
+-- A call that is started and then turned alone does what the published procedures do: the statement. "Alone" means that no
+-- other call is made before it ends; other stations may stand anywhere in calls of theirs.
+use Prim.Native.Nat.{ℕ, zero, suc, _+_, _-_, _≤_, _<_}
+use mathlib.Core.List.{List, [], _∷_, _++_}
+use mathlib.Core.Logic.{_≢_}
+use mathlib.Core.Path.{_≡_}
+use lib.ListN.{set}
+use Rattle.model.specs.Layout.{Memory, lock}
+use Rattle.model.specs.State.{idleProcess, memoryOf}
+use Rattle.model.specs.Calls.{openOf, startPutOf, startGetOf, topOf, Store, stepOf, counted}
+use Rattle.model.specs.History.{Action, withState, performAll, begin}
+use Rattle.figure.specs.Types.{Put, Get, Answer, Opening, Starting, Stepping}
+use Rattle.figure.specs.Figure.{HMAX, head, findAll, get, alone, put}
+use Rattle.figure.specs.Steps.{searchSteps, stepsOf}
+
+-- ---- steps of one process
+
+-- what its steps said, and the store that they left
+pub record Turned : Type 0 where
+  pub outcomes : List Stepping
+  pub store : Store
+
+-- n steps of process i, and nothing between them
+unfoldable pub turned : Store → (i n : ℕ) → Turned
+turned w i zero = record { outcomes = []; store = w }
+turned w i (suc n) =
+    let o = stepOf w i in
+    let rest = turned (o .store) i n in
+    record { outcomes = o .outcome ∷ rest .outcomes; store = rest .store }
+
+-- n steps that all moved on, the first with this tick: no wait, no refusal, no end
+unfoldable pub moves : (tick n : ℕ) → List Stepping
+moves tick zero = []
+moves tick (suc n) = Stepping.Moved tick ∷ moves (tick + 1) n
+
+-- ---- the stores
+
+-- a store that a list of demand 3 leaves
+pub record Reached (w : Store) : Type 0 where
+  pub nodes : List ℕ
+  pub versions : List ℕ
+  pub processes : ℕ
+  pub limit : ℕ
+  pub opened : openOf nodes versions processes limit .result .outcome ≡ Opening.Opened
+  pub actions : List Action
+  pub left : performAll (begin (openOf nodes versions processes limit) processes limit) actions .store ≡ w
+
+abbrev pub memoryIn : Store → Memory
+memoryIn w = memoryOf (w .state) (w .nodes) (w .versions)
+
+-- the store n events later, with this memory; process i is idle, and its call's answer counted
+abbrev pub rested : Store → (i n : ℕ) → Memory → Answer → Store
+rested w i n m a = record {
+  state = record {
+    opened = w .state .opened;
+    processes = w .state .processes;
+    limit = w .state .limit;
+    events = w .state .events + n;
+    lengths = w .state .lengths;
+    counts = m .counts;
+    process = set (w .state .process) i idleProcess;
+  };
+  nodes = m .nodes;
+  versions = m .versions;
+  tally = counted (w .tally) a;
+}
+
+-- ---- get
+
+-- Whatever other calls stand half done: an accepted get, with events enough for its steps, ends at the last of them without a
+-- wait. It answers what the figure's get answers on the tables, which are as they were.
+abbrev pub GetAlone : Type 0
+GetAlone = (w : Store) → Reached w → (bound : ℕ) → w .state .counts .nodes < bound → (i k start : ℕ)
+    → let begun = startGetOf (w .state) (w .nodes) (w .versions) i k in
+    let m = memoryIn w in
+    let r = get bound m k in
+    let n = stepsOf bound m k (r .answer) 0 in
+    begun .outcome ≡ Starting.Started start → start + n ≤ w .state .limit
+    → turned (withState w (begun .state)) i n ≡ record {
+      outcomes = moves (start + 1) (n - 1) ++ (Stepping.Finished (record {
+        kind = Get;
+        answer = r .answer;
+        value = r .version .value;
+        timestamp = r .version .timestamp;
+        start = start;
+        effect = start + n;
+        finish = start + n;
+      }) ∷ []);
+      store = rested w i (n + 1) m (r .answer);
+    }

@@ -1,0 +1,4 @@
+pub mod Types
+pub mod Figure
+pub mod Steps
+pub mod Alone
