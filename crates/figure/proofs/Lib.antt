@@ -5,3 +5,10 @@ pub mod Getting
 pub mod Lifted
 pub mod Called
 pub mod GetAlone
+pub mod Writing
+pub mod Locking
+pub mod Bottom
+pub mod Rising
+pub mod Climbing
+pub mod Putting
+pub mod PutAlone

@@ -1,15 +1,15 @@
 -- A call that is started and then turned alone does what the published procedures do: the statement. "Alone" means that no
 -- other call is made before it ends; other stations may stand anywhere in calls of theirs.
 use Prim.Native.Nat.{ℕ, zero, suc, _+_, _-_, _≤_, _<_}
+use mathlib.Core.Bool.{true}
 use mathlib.Core.List.{List, [], _∷_, _++_}
-use mathlib.Core.Logic.{_≢_}
 use mathlib.Core.Path.{_≡_}
 use lib.ListN.{set}
 use Rattle.model.specs.Layout.{Memory, lock}
-use Rattle.model.specs.State.{idleProcess, memoryOf}
-use Rattle.model.specs.Calls.{openOf, startPutOf, startGetOf, topOf, Store, stepOf, counted}
+use Rattle.model.specs.State.{idleProcess, memoryOf, lawfulKey}
+use Rattle.model.specs.Calls.{openOf, startPutOf, startGetOf, topOf, Store, stepOf, counted, statusOf}
 use Rattle.model.specs.History.{Action, withState, performAll, begin}
-use Rattle.figure.specs.Types.{Put, Get, Answer, Opening, Starting, Stepping}
+use Rattle.figure.specs.Types.{Put, Get, Answer, Opening, Starting, Stepping, Status}
 use Rattle.figure.specs.Figure.{HMAX, head, findAll, get, alone, put}
 use Rattle.figure.specs.Steps.{searchSteps, stepsOf}
 
@@ -88,3 +88,52 @@ GetAlone = (w : Store) → Reached w → (bound : ℕ) → w .state .counts .nod
       }) ∷ []);
       store = rested w i (n + 1) m (r .answer);
     }
+
+-- ---- put
+
+-- the locks that a put of key k with top level h needs are free: at each level that of the predecessor that findAll finds
+abbrev pub Free : (bound : ℕ) → Memory → (k h : ℕ) → Type 0
+Free bound m k h = (l : ℕ) → l ≤ h → lock (m .nodes) l (findAll bound m head k HMAX l .pred) ≡ 0
+
+-- An accepted put, where these locks are free and with events enough for its steps, ends at the last of them without a wait. It
+-- leaves the tables and counts that the figure's put leaves, word for word, and gives its answer. It takes effect four steps
+-- after its search.
+abbrev pub PutAlone : Type 0
+PutAlone = (w : Store) → Reached w → (bound : ℕ) → w .state .counts .nodes < bound → (i k v t draw start : ℕ)
+    → let begun = startPutOf (w .state) (w .nodes) (w .versions) i k v t draw in
+    let m = memoryIn w in
+    let o = put alone i bound m k v t draw in
+    let n = stepsOf bound m k (o .answer) (topOf draw) in
+    Free bound m k (topOf draw) → begun .outcome ≡ Starting.Started start → start + n ≤ w .state .limit
+    → turned (withState w (begun .state)) i n ≡ record {
+      outcomes = moves (start + 1) (n - 1) ++ (Stepping.Finished (record {
+        kind = Put;
+        answer = o .answer;
+        value = v;
+        timestamp = t;
+        start = start;
+        effect = start + (searchSteps bound m k + 4);
+        finish = start + n;
+      }) ∷ []);
+      store = rested w i (n + 1) (o .memory) (o .answer);
+    }
+
+-- No lock is held. That is so where no call is running, and then the locks are free that any put needs; and a put that is
+-- turned alone there frees its locks again.
+abbrev pub Unlocked : Memory → Type 0
+Unlocked m = (l x : ℕ) → l ≤ HMAX → x ≤ m .counts .nodes → lock (m .nodes) l x ≡ 0
+
+abbrev pub Resting : Store → Type 0
+Resting w = (i : ℕ) → i < w .state .processes → statusOf (w .state) i ≡ Status.Idle
+
+abbrev pub RestUnlocks : Type 0
+RestUnlocks = (w : Store) → Reached w → Resting w → Unlocked (memoryIn w)
+
+abbrev pub UnlockedFrees : Type 0
+UnlockedFrees = (w : Store) → Reached w → Unlocked (memoryIn w)
+    → (bound : ℕ) → w .state .counts .nodes < bound → (k h : ℕ) → lawfulKey k ≡ true → h ≤ HMAX → Free bound (memoryIn w) k h
+
+abbrev pub PutUnlocks : Type 0
+PutUnlocks = (w : Store) → Reached w → Unlocked (memoryIn w)
+    → (bound : ℕ) → w .state .counts .nodes < bound → (i k v t draw : ℕ) → lawfulKey k ≡ true
+    → Unlocked (put alone i bound (memoryIn w) k v t draw .memory)

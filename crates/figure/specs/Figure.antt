@@ -51,7 +51,7 @@ abbrev pub newlock : ℕ
 newlock = 0
 
 -- ref (k, val, locks, next) as the record of node n, with its top level h in document 01's word 2
-abbrev pub refNode : (nodes : List ℕ) → (n k val h : ℕ) → (locks next : List ℕ) → List ℕ
+unfoldable pub refNode : (nodes : List ℕ) → (n k val h : ℕ) → (locks next : List ℕ) → List ℕ
 refNode nodes n k val h locks next = sets nodes (nodeWords * n) (k ∷ val ∷ h ∷ 0 ∷ next ++ locks)
 
 -- AllocN: every record of the node table has room for HMAX + 1 links and locks, and what it is not given is 0

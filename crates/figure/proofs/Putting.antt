@@ -1,0 +1,207 @@
+-- A put that is turned alone, where the locks that it needs are free, leaves the memory and gives the answer of the figure's putH.
+use Prim.Native.Nat.{ℕ, zero, suc, _+_, _*_, _≤_, _<_}
+use mathlib.Core.Bool.{Bool, true, false, not}
+use mathlib.Core.List.{List}
+use mathlib.Core.Logic.{_≢_, _⊎_, inl, inr}
+use mathlib.Core.Option.{Option, none, some}
+use mathlib.Core.Path.{_≡_, refl, sym, ap, _∙_, subst}
+use native.Mathlib.Omega.{arith}
+use lib.Dec.{T, leb, ltb, le→leb}
+use lib.ListN.{length, getD, set, replicate}
+use lib.Seq.{getD-set-other}
+use Rattle.model.specs.Choice.{if_then_else_}
+use Rattle.model.specs.Layout.{Memory, topLevel, lock}
+use Rattle.model.specs.Map.{Map}
+use Rattle.model.specs.Numbers.{placeOf, noVersion}
+use Rattle.model.specs.Phases.{moved, ownVersion, ended, isNew, rise, released, freed, releaseOf, fromPut, lawfulAt, phaseOf, turnOf}
+use Rattle.model.specs.Calls.{begun}
+use Rattle.model.proofs.Tests.{if-yes, if-no}
+use Rattle.model.proofs.Invariant.{Ghost, Nodes, Book}
+use Rattle.figure.specs.Types.{Kind, Idle, Put, Release, Answer, TooOld, VersionsFull, Added, KeysFull, New, Found, None, Call, Process, End}
+use Rattle.figure.specs.Figure.{HMAX, MAX, head, Pair, find, findAll, Inserted, release, alone, tryInsert, insertAbove, insertAll, putH}
+use Rattle.figure.specs.Steps.{hopsDown, searchSteps, stepsAfter, stepsOf}
+use Rattle.figure.proofs.Search.{Finds, at-head, all-finds, all-next}
+use Rattle.figure.proofs.Runs.{Place, at-place, Run, run-on, run-same, Ended}
+use Rattle.figure.proofs.Walking.{pose, turn-is, walks, Walked, walk-down}
+use Rattle.figure.proofs.Bottom.{put-busy, made-of, Plain, done, closed, try-is, Settles, Makes, bottom}
+use Rattle.figure.proofs.Rising.{Risen, made-risen}
+use Rattle.figure.proofs.Climbing.{above, releases, release-turn, Climbed, climb}
+
+module _ (m : Memory) (g : Ghost) (b : Map) (N : Nodes m g) (B : Book m b) (call : Call) (is-put : call .kind ≡ Put)
+    (k-low : 1 ≤ call .key) (k-max : call .key < MAX) (top5 : call .top ≤ 5) (bound : ℕ) (enough : m .counts .nodes < bound)
+    (i start : ℕ) (free : (l : ℕ) → l ≤ call .top → lock (m .nodes) l (findAll bound m head (call .key) HMAX l .pred) ≡ 0) where
+  abbrev k : ℕ
+  k = call .key
+
+  abbrev h : ℕ
+  h = call .top
+
+  -- the predecessor at a level
+  abbrev path : ℕ → ℕ
+  path l = findAll bound m head k HMAX l .pred
+
+  finds-at : (l : ℕ) → l ≤ HMAX → Finds m g k l (findAll bound m head k HMAX l)
+  finds-at l le = all-finds m g N k k-max bound (omega arith) HMAX head l le (at-head m g N k k-max k-low)
+
+  -- the figure's outcome when it has come up to level l
+  abbrev out : ℕ → Inserted
+  out l = insertAll alone i bound m (path l) k (call .value) (call .timestamp) h l
+
+  out-next : (l : ℕ) → l < HMAX → out (suc l) ≡ insertAbove alone i bound (out l) (path (suc l)) (suc l) (out l .node)
+  unfolding insertAll
+  out-next l lt = ap (λ (r : Pair). let o = insertAll alone i bound m (r .pred) k (call .value) (call .timestamp) h l in
+      insertAbove alone i bound o (path (suc l)) (suc l) (o .node)) (sym (all-next m g N k k-max bound head HMAX l lt))
+
+  -- ---- walk and bottom
+
+  abbrev busy : call .kind ≢ Idle
+  busy = put-busy call is-put
+
+  W : Walked m g N call busy k-max i bound (start + 1) HMAX head (replicate 6 0)
+  W = walk-down m g N call busy k-max i bound (omega arith) HMAX head (start + 1) (replicate 6 0) (omega arith) (at-head m g N k k-max k-low)
+
+  abbrev walked : ℕ
+  walked = hopsDown bound m head k HMAX + HMAX
+
+  -- the tick of its effect
+  abbrev effect : ℕ
+  effect = start + 1 + walked + 4
+
+  -- what the figure leaves at the bottom
+  abbrev o : Inserted
+  o = done m call i (path 0)
+
+  abbrev preds : List ℕ
+  preds = set (W .preds′) 0 (path 0)
+
+  known : (l : ℕ) → suc l ≤ HMAX → getD preds (suc l) 0 ≡ path (suc l)
+  known l le = getD-set-other (W .preds′) 0 (suc l) (path 0) 0 (omega arith) ∙ W .known (suc l) (omega arith) le
+
+  abbrev at-bottom : Inserted → Type 0
+  at-bottom o = Run i (start + 1) (walked + 5) (at-place (begun call) m)
+      (at-place (pose call Release 0 (path 0) preds (made-of (o .node)) (o .answer) effect) (o .memory))
+      × (Settles m o ⊎ Makes m call i (path 0) o)
+
+  low : at-bottom o
+  low =
+      let r = bottom m g b N B call is-put k-max top5 i (path 0) (W .preds′) (findAll bound m head k HMAX 0 .succ) (finds-at 0 (omega arith)) (free 0 (omega arith)) (start + 1 + walked) in
+      (run-on (W .run) (r .0), r .1)
+
+  out-zero : out 0 ≡ closed (path 0) o
+  unfolding insertAll
+  out-zero = try-is m g b N B call is-put k-max top5 i (path 0) (W .preds′) (findAll bound m head k HMAX 0 .succ) (finds-at 0 (omega arith)) (free 0 (omega arith)) bound (omega arith)
+
+  -- ---- the end
+
+  -- what is to be shown of the figure's outcome
+  abbrev Ends : Inserted → Type 0
+  Ends r = Ended i start (stepsOf bound m k (r .answer) h) (at-place (begun call) m) (r .memory) (r .answer) (ownVersion call)
+      (start + (searchSteps bound m k + 4))
+
+  -- a put that made no node: its release is its end
+  plain-turn : (m₂ : Memory) (made tick e : ℕ) (a : Answer) → Plain a → path 0 ≤ m₂ .counts .nodes
+      → turnOf (i + 1) tick (pose call Release 0 (path 0) preds made a e) m₂ ≡ moved (release m₂ (path 0) 0) (End a (ownVersion call) e)
+  unfolding phaseOf releaseOf released isNew placeOf freed lawfulAt fromPut
+  plain-turn m₂ made tick e TooOld p used = turn-is (i + 1) tick (pose call Release 0 (path 0) preds made TooOld e) m₂ (omega arith) used (rw is-put tt)
+  plain-turn m₂ made tick e VersionsFull p used = turn-is (i + 1) tick (pose call Release 0 (path 0) preds made VersionsFull e) m₂ (omega arith) used (rw is-put tt)
+  plain-turn m₂ made tick e Added p used = turn-is (i + 1) tick (pose call Release 0 (path 0) preds made Added e) m₂ (omega arith) used (rw is-put tt)
+  plain-turn m₂ made tick e KeysFull p used = turn-is (i + 1) tick (pose call Release 0 (path 0) preds made KeysFull e) m₂ (omega arith) used (rw is-put tt)
+  plain-turn m₂ made tick e New p used = absurd p
+  plain-turn m₂ made tick e Found p used = absurd p
+  plain-turn m₂ made tick e None p used = absurd p
+
+  plain-steps : (a : Answer) → Plain a → suc (walked + 5) ≡ stepsOf bound m k a h
+  unfolding stepsOf searchSteps stepsAfter
+  plain-steps TooOld p = omega arith
+  plain-steps VersionsFull p = omega arith
+  plain-steps Added p = omega arith
+  plain-steps KeysFull p = omega arith
+  plain-steps New p = absurd p
+  plain-steps Found p = absurd p
+  plain-steps None p = absurd p
+
+  -- then no level above is come to
+  settled-out : Settles m o → (l : ℕ) → l ≤ HMAX → out l ≡ closed (path 0) o
+  unfolding insertAbove
+  settled-out s zero le = out-zero
+  settled-out s (suc l) le = out-next l (omega arith)
+      ∙ ap (λ (r : Inserted). insertAbove alone i bound r (path (suc l)) (suc l) (r .node)) (settled-out s l (omega arith))
+      ∙ ap (λ (n : Option ℕ). insertAbove alone i bound (closed (path 0) o) (path (suc l)) (suc l) n) (s .node)
+
+  effect-is : effect ≡ start + (searchSteps bound m k + 4)
+  unfolding searchSteps
+  effect-is = omega arith
+
+  settled-ends : Settles m o → Ends (closed (path 0) o)
+  settled-ends s = record {
+    before = walked + 5;
+    steps-is = plain-steps (o .answer) (s .answer);
+    last = at-place (pose call Release 0 (path 0) preds (made-of (o .node)) (o .answer) effect) (o .memory);
+    run = low .0;
+    ends = plain-turn (o .memory) (made-of (o .node)) _ effect (o .answer) (s .answer) (omega (arith, s .same, finds-at 0 (omega arith) .spot .used))
+        ∙ ap (λ t. moved (release (o .memory) (path 0) 0) (End (o .answer) (ownVersion call) t)) effect-is;
+  }
+
+  -- ---- a put that made a node: it climbs to its top
+
+  abbrev Up : (l : ℕ) → Type 0
+  Up l = Climbed m g N call is-put k-max top5 i start effect (at-place (begun call) m) preds (walked + 5 + 5 * l) l (path l) (out l)
+
+  made-up : Makes m call i (path 0) o → Up 0
+  made-up M = record {
+    held = o .memory;
+    run = run-same (omega arith) (subst (λ (r : Inserted). Run i (start + 1) (walked + 5) (at-place (begun call) m)
+        (at-place (pose call Release 0 (path 0) preds (made-of (r .node)) (r .answer) effect) (r .memory))) shape (low .0));
+    used = omega (arith, risen .nodes-is, used);
+    out-is = out-zero ∙ ap (closed (path 0)) shape;
+    risen = risen;
+  }
+    where
+      shape : o ≡ record { memory = o .memory; answer = New; node = some (m .counts .nodes + 1) }
+      shape = rw (← M .answer, ← M .node) refl
+
+      used : path 0 ≤ m .counts .nodes
+      used = finds-at 0 (omega arith) .spot .used
+
+      risen : Risen m (release (o .memory) (path 0) 0) k 0
+      risen = rw (M .memory) (made-risen m call i (path 0) (N .size) (M .room) used (free 0 (omega arith)))
+
+  all-up : Makes m call i (path 0) o → (l : ℕ) → l ≤ h → Up l
+  all-up M zero le = made-up M
+  all-up M (suc l) le = subst
+      (λ (r : Inserted). Climbed m g N call is-put k-max top5 i start effect (at-place (begun call) m) preds (walked + 5 + 5 * suc l) (suc l) (path (suc l)) r)
+      (sym (out-next l (omega arith)))
+      (subst (λ n. Climbed m g N call is-put k-max top5 i start effect (at-place (begun call) m) preds n (suc l) (path (suc l))
+      (insertAbove alone i bound (out l) (path (suc l)) (suc l) (out l .node))) (sum walked l)
+      (climb m g N call is-put k-max top5 i start effect (at-place (begun call) m) preds bound (omega arith) (walked + 5 + 5 * l) l (path l) (path (suc l))
+      (findAll bound m head k HMAX (suc l) .succ) (out l) (all-up M l (omega arith)) le (finds-at (suc l) (omega arith)) (known l (omega arith)) (free (suc l) le)))
+    where
+      sum : (w l : ℕ) → w + 5 + 5 * l + 5 ≡ w + 5 + 5 * suc l
+      sum w l = omega arith
+
+  top-turn : (held : Memory) (tick : ℕ) → path h ≤ held .counts .nodes
+      → turnOf (i + 1) tick (releases call is-put i preds (m .counts .nodes + 1) effect h (path h)) held
+      ≡ moved (release held (path h) h) (End New (ownVersion call) effect)
+  unfolding rise freed
+  top-turn held tick used =
+      release-turn call is-put i preds (m .counts .nodes + 1) effect held h (path h) tick top5 used
+      ∙ ap (λ v. freed (releases call is-put i preds (m .counts .nodes + 1) effect h (path h) .cursor) held v)
+      (if-no (ltb topLevel h) _ _ (above topLevel h top5) ∙ if-yes (leb h h) _ _ (le→leb h h (omega arith)))
+
+  made-ends : Up h → Ends (out h)
+  unfolding stepsOf searchSteps stepsAfter
+  made-ends U = rw (U .out-is) (record {
+    before = walked + 5 + 5 * h;
+    steps-is = omega arith;
+    last = at-place (releases call is-put i preds (m .counts .nodes + 1) effect h (path h)) (U .held);
+    run = U .run;
+    ends = top-turn (U .held) _ (U .used) ∙ ap (λ t. moved (release (U .held) (path h) h) (End New (ownVersion call) t)) effect-is;
+  })
+
+  pub put-ends : Ends (putH alone i bound m k (call .value) (call .timestamp) h)
+  unfolding putH
+  put-ends = by (low .1)
+    where
+      by : Settles m o ⊎ Makes m call i (path 0) o → Ends (out h)
+      by (inl s) = rw (settled-out s h top5) (settled-ends s)
+      by (inr M) = made-ends (all-up M h (omega arith))
