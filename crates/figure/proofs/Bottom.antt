@@ -52,11 +52,13 @@ done m call i q =
 abbrev pub closed : (q : ℕ) → Inserted → Inserted
 closed q o = record { memory = release (o .memory) q 0; answer = o .answer; node = o .node }
 
--- no node is made
-pub record Settles (m : Memory) (o : Inserted) : Type 0 where
+-- no node is made, and no lock but that of q is written
+pub record Settles (m : Memory) (i q : ℕ) (o : Inserted) : Type 0 where
   pub node : o .node ≡ none
   pub answer : Plain (o .answer)
   pub same : o .memory .counts .nodes ≡ m .counts .nodes
+  pub size : length (o .memory .nodes) ≡ length (m .nodes)
+  pub locks : (l x : ℕ) → l ≤ 5 → lock (o .memory .nodes) l x ≡ lock (acquire alone i m q 0 .nodes) l x
 
 abbrev pub make-cursor : (q : ℕ) → Cursor
 make-cursor q = record { phase = Make; level = 0; pred = q; made = 0 }
@@ -156,12 +158,23 @@ module _ (m : Memory) (g : Ghost) (b : Map) (N : Nodes m g) (B : Book m b) (call
       by false true = refl
       by false false = refl
 
-  update-settles : Settles m u
+  -- memory is as it was when the lock was taken
+  untouched : (a : Answer) → Plain a → Settles m i q (record { memory = m₁; answer = a; node = none })
+  untouched a p = record { node = refl; answer = p; same = refl; size = length-word (m .nodes) q 10 (i + 1); locks = λ l x l5. refl }
+
+  update-settles : Settles m i q u
   unfolding update
-  update-settles = if-by (Settles m) (ltb (call .timestamp) (timestamp (m₁ .versions) (newest (m₁ .nodes) y)))
-      (λ t. record { node = refl; answer = tt; same = refl })
-      (λ t. if-by (Settles m) (leb (maxVersions m₁) (m .counts .versions))
-      (λ z. record { node = refl; answer = tt; same = refl }) (λ z. record { node = refl; answer = tt; same = refl }))
+  update-settles = if-by (Settles m i q) (ltb (call .timestamp) (timestamp (m₁ .versions) (newest (m₁ .nodes) y)))
+      (λ t. untouched TooOld tt)
+      (λ t. if-by (Settles m i q) (leb (maxVersions m₁) (m .counts .versions))
+      (λ z. untouched VersionsFull tt)
+      (λ z. record {
+        node = refl;
+        answer = tt;
+        same = refl;
+        size = length-word (m₁ .nodes) y 1 (m .counts .versions + 1) ∙ length-word (m .nodes) q 10 (i + 1);
+        locks = λ l x l5. word-field (m₁ .nodes) y x 1 (10 + l) (m .counts .versions + 1) (omega arith) (omega arith) (omega arith);
+      }))
 
   update-turn : (tick : ℕ) → y ≢ 0 → turnOf (i + 1) tick (here Update) m₁ ≡ moved (u .memory) (committed (here Update .cursor) (made-of (u .node)) (u .answer))
   unfolding phaseOf updateOf updateAt
@@ -213,11 +226,11 @@ module _ (m : Memory) (g : Ghost) (b : Map) (N : Nodes m g) (B : Book m b) (call
       by false false true t = absurd t
       by false false false t = refl
 
-  make-sorts : Settles m c ⊎ Makes m call i q c
+  make-sorts : Settles m i q c ⊎ Makes m call i q c
   make-sorts = rw create-is (if-by Sorts (leb (maxNodes m₁) (m .counts .nodes))
-      (λ t. inl (record { node = refl; answer = tt; same = refl }))
+      (λ t. inl (untouched KeysFull tt))
       (λ t. if-by Sorts (leb (maxVersions m₁) (m .counts .versions))
-      (λ z. inl (record { node = refl; answer = tt; same = refl }))
+      (λ z. inl (untouched VersionsFull tt))
       (λ z. inr (record {
         node = refl;
         answer = refl;
@@ -226,14 +239,14 @@ module _ (m : Memory) (g : Ghost) (b : Map) (N : Nodes m g) (B : Book m b) (call
       }))))
     where
       Sorts : Inserted → Type 0
-      Sorts o = Settles m o ⊎ Makes m call i q o
+      Sorts o = Settles m i q o ⊎ Makes m call i q o
 
   -- ---- up to the release
 
   abbrev Bottomed : (tick : ℕ) → Inserted → Type 0
   Bottomed tick o =
       Run i tick 5 (at-place (before call Walk 0 q preds) m) (at-place (pose call Release 0 q preds₀ (made-of (o .node)) (o .answer) (tick + 4)) (o .memory))
-      × (Settles m o ⊎ Makes m call i q o)
+      × (Settles m i q o ⊎ Makes m call i q o)
 
   by-update : (tick : ℕ) → T (eqb k (keyOf m₁ y)) → Bottomed tick u
   unfolding checkBy processAfter

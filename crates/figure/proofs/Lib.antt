@@ -12,3 +12,4 @@ pub mod Rising
 pub mod Climbing
 pub mod Putting
 pub mod PutAlone
+pub mod Unlocked

@@ -15,7 +15,8 @@ use Rattle.model.specs.Map.{Map}
 use Rattle.model.specs.Numbers.{placeOf, noVersion}
 use Rattle.model.specs.Phases.{moved, ownVersion, ended, isNew, rise, released, freed, releaseOf, fromPut, lawfulAt, phaseOf, turnOf}
 use Rattle.model.specs.Calls.{begun}
-use Rattle.model.proofs.Tests.{if-yes, if-no}
+use Rattle.model.proofs.Tests.{if-yes, if-no, by-eq}
+use Rattle.model.proofs.Words.{word-same, word-other}
 use Rattle.model.proofs.Invariant.{Ghost, Nodes, Book}
 use Rattle.figure.specs.Types.{Kind, Idle, Put, Release, Answer, TooOld, VersionsFull, Added, KeysFull, New, Found, None, Call, Process, End}
 use Rattle.figure.specs.Figure.{HMAX, MAX, head, Pair, find, findAll, Inserted, release, alone, tryInsert, insertAbove, insertAll, putH}
@@ -80,7 +81,7 @@ module _ (m : Memory) (g : Ghost) (b : Map) (N : Nodes m g) (B : Book m b) (call
   abbrev at-bottom : Inserted → Type 0
   at-bottom o = Run i (start + 1) (walked + 5) (at-place (begun call) m)
       (at-place (pose call Release 0 (path 0) preds (made-of (o .node)) (o .answer) effect) (o .memory))
-      × (Settles m o ⊎ Makes m call i (path 0) o)
+      × (Settles m i (path 0) o ⊎ Makes m call i (path 0) o)
 
   low : at-bottom o
   low =
@@ -121,7 +122,7 @@ module _ (m : Memory) (g : Ghost) (b : Map) (N : Nodes m g) (B : Book m b) (call
   plain-steps None p = absurd p
 
   -- then no level above is come to
-  settled-out : Settles m o → (l : ℕ) → l ≤ HMAX → out l ≡ closed (path 0) o
+  settled-out : Settles m i (path 0) o → (l : ℕ) → l ≤ HMAX → out l ≡ closed (path 0) o
   unfolding insertAbove
   settled-out s zero le = out-zero
   settled-out s (suc l) le = out-next l (omega arith)
@@ -132,7 +133,7 @@ module _ (m : Memory) (g : Ghost) (b : Map) (N : Nodes m g) (B : Book m b) (call
   unfolding searchSteps
   effect-is = omega arith
 
-  settled-ends : Settles m o → Ends (closed (path 0) o)
+  settled-ends : Settles m i (path 0) o → Ends (closed (path 0) o)
   settled-ends s = record {
     before = walked + 5;
     steps-is = plain-steps (o .answer) (s .answer);
@@ -202,6 +203,50 @@ module _ (m : Memory) (g : Ghost) (b : Map) (N : Nodes m g) (B : Book m b) (call
   unfolding putH
   put-ends = by (low .1)
     where
-      by : Settles m o ⊎ Makes m call i (path 0) o → Ends (out h)
+      by : Settles m i (path 0) o ⊎ Makes m call i (path 0) o → Ends (out h)
       by (inl s) = rw (settled-out s h top5) (settled-ends s)
       by (inr M) = made-ends (all-up M h (omega arith))
+
+  -- ---- its locks are free again
+
+  abbrev LocksKept : Memory → Type 0
+  LocksKept M = (l x : ℕ) → l ≤ 5 → (x ≤ m .counts .nodes → lock (M .nodes) l x ≡ lock (m .nodes) l x)
+      × (m .counts .nodes < x → x ≤ M .counts .nodes → lock (M .nodes) l x ≡ 0)
+
+  settled-locks : Settles m i (path 0) o → LocksKept (release (o .memory) (path 0) 0)
+  settled-locks s l x l5 = (kept, λ lt le. absurd (omega (arith, s .same)))
+    where
+      q : ℕ
+      q = path 0
+
+      used : q ≤ m .counts .nodes
+      used = finds-at 0 (omega arith) .spot .used
+
+      kept : x ≤ m .counts .nodes → lock (release (o .memory) q 0 .nodes) l x ≡ lock (m .nodes) l x
+      kept hx = by-eq x q
+          (λ ex. by-eq l 0
+          (λ el. rw (ex, el) (word-same (o .memory .nodes) q 10 0 (omega arith) (omega (arith, s .size, N .size, N .room, used)) ∙ sym (free 0 (omega arith))))
+          (λ nl. other (λ e. omega arith)))
+          (λ nx. other (λ e. absurd (nx e)))
+        where
+          other : (x ≡ q → 10 + l ≢ 10) → lock (release (o .memory) q 0 .nodes) l x ≡ lock (m .nodes) l x
+          other ne =
+              word-other (o .memory .nodes) q x 10 (10 + l) 0 (omega arith) (omega arith) ne ∙ s .locks l x l5
+              ∙ word-other (m .nodes) q x 10 (10 + l) (i + 1) (omega arith) (omega arith) ne
+
+  made-locks : Up h → LocksKept (out h .memory)
+  made-locks U = rw (U .out-is) (λ l x l5. (
+    λ hx. U .risen .locks l x l5 hx,
+    λ lt le. rw (own (U .held .counts .nodes) (m .counts .nodes) (U .risen .nodes-is) x lt le) (U .risen .own-locks l l5),
+  ))
+    where
+      own : (a b : ℕ) → a ≡ b + 1 → (x : ℕ) → b < x → x ≤ a → x ≡ b + 1
+      own a b e x lt le = omega arith
+
+  pub put-locks : LocksKept (putH alone i bound m k (call .value) (call .timestamp) h .memory)
+  unfolding putH
+  put-locks = by (low .1)
+    where
+      by : Settles m i (path 0) o ⊎ Makes m call i (path 0) o → LocksKept (out h .memory)
+      by (inl s) = rw (settled-out s h top5) (settled-locks s)
+      by (inr M) = made-locks (all-up M h (omega arith))
