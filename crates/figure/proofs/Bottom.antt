@@ -18,12 +18,12 @@ use Rattle.model.proofs.Words.{length-word, word-field}
 use Rattle.model.proofs.Invariant.{Ghost, Nodes, Book}
 use Rattle.model.proofs.Step.{place-in, within-T}
 use Rattle.figure.specs.Types.{Kind, Idle, Put, Phase, Walk, Seek, Lock, Check, Update, Make, Release, Answer, TooOld, VersionsFull, Added, KeysFull, New, Found, None, Call, Cursor, Process, Ahead, Equal, Past, Refuse, Note, Go, Commit}
-use Rattle.figure.specs.Figure.{MAX, keyOf, Inserted, link, create, createAndLink, update, Locked, release, acquire, alone, tryInsert}
-use Rattle.figure.proofs.Search.{key-same, Finds, link-used}
+use Rattle.figure.specs.Figure.{MAX, keyOf, Pair, Inserted, link, create, createAndLink, update, Locked, release, acquire, alone, tryInsert}
+use Rattle.figure.proofs.Search.{key-same, Finds}
 use Rattle.figure.proofs.Runs.{Place, at-place, Run, run-one, run-on}
-use Rattle.figure.proofs.Walking.{pose, before, ahead-equal, ahead-past, ahead-stop, walk-turn, walks}
+use Rattle.figure.proofs.Walking.{pose, before, ahead-equal, ahead-past, ahead-stop, walk-turn}
 use Rattle.figure.proofs.Writing.{make-is}
-use Rattle.figure.proofs.Locking.{work-turn, stop-held, linked-held, to-check, check-turn, find-lock}
+use Rattle.figure.proofs.Locking.{Ready, finds-ready, work-turn, held-ready, to-check, check-turn, find-lock}
 
 -- the new node, 0 for none
 abbrev pub made-of : Option ℕ → ℕ
@@ -74,22 +74,15 @@ pub put-busy : (call : Call) → call .kind ≡ Put → call .kind ≢ Idle
 put-busy call is e = let z : _≡_ {A = ℕ} 0 1 = cc in omega arith
 
 module _ (m : Memory) (g : Ghost) (b : Map) (N : Nodes m g) (B : Book m b) (call : Call) (is-put : call .kind ≡ Put)
-    (k-max : call .key < MAX) (top5 : call .top ≤ 5) (i : ℕ) (q : ℕ) (preds : List ℕ) (succ : ℕ) (f : Finds m g (call .key) 0 (record { pred = q; succ = succ }))
-    (free : lock (m .nodes) 0 q ≡ 0) where
+    (k-max : call .key < MAX) (top5 : call .top ≤ 5) (i : ℕ) {r : Pair} (f : Finds m g (call .key) 0 r) (preds : List ℕ) where
   abbrev k : ℕ
   k = call .key
 
-  abbrev busy : call .kind ≢ Idle
-  busy = put-busy call is-put
+  abbrev q : ℕ
+  q = r .pred
 
-  abbrev used : q ≤ m .counts .nodes
-  used = f .spot .used
-
-  stop : T (leb k (keyOf m (next (m .nodes) 0 q)))
-  stop = rw (f .succ-is) at (f .stop)
-
-  linked : next (m .nodes) 0 q ≢ 0 → next (m .nodes) 0 q ≤ m .counts .nodes
-  linked = link-used m g N k k-max (f .spot)
+  R : Ready m k 0 q
+  R = finds-ready m g N k k-max f
 
   abbrev preds₀ : List ℕ
   preds₀ = set preds 0 q
@@ -103,34 +96,30 @@ module _ (m : Memory) (g : Ghost) (b : Map) (N : Nodes m g) (B : Book m b) (call
   abbrev y : ℕ
   y = next (m₁ .nodes) 0 q
 
-  walk-on : (tick : ℕ) → Run i tick 1 (walks m g N call busy k-max i 0 q preds) (at-place (here Seek) m)
+  pub walk-on : (tick : ℕ) → Run i tick 1 (at-place (before call Walk 0 q preds) m) (at-place (here Seek) m)
   unfolding walkBy descend walked processAfter
   walk-on tick =
       let c = before call Walk 0 q preds .cursor in
       let down : (found : ℕ) → moved m (walked (call .kind) call c tick found) ≡ moved m (Note (here Seek .cursor)) =
       λ found. ap (λ kind. moved m (walked kind call c tick found)) is-put in
-      run-one (walk-turn m g N call busy k-max i tick 0 q preds (f .spot)
-      ∙ ahead-stop m k k-max 0 q linked (λ x. moved m (walkBy call c tick x) ≡ moved m (Note (here Seek .cursor))) stop (down (next (m .nodes) 0 q)) (down 0)) tt
+      run-one (walk-turn m g N call (put-busy call is-put) k-max i tick 0 q preds (f .spot)
+      ∙ ahead-stop m k k-max 0 q (R .linked) (λ x. moved m (walkBy call c tick x) ≡ moved m (Note (here Seek .cursor))) (R .stop)
+      (down (next (m .nodes) 0 q)) (down 0)) tt
 
-  to-here : (tick : ℕ) → Run i tick 3 (walks m g N call busy k-max i 0 q preds) (at-place (here Check) m₁)
-  to-here tick = run-on (walk-on tick)
-      (to-check call is-put i 0 None 0 tt k-max m 0 q preds₀ (omega arith) used linked stop free (tick + 1))
+  to-here : (tick : ℕ) → lock (m .nodes) 0 q ≡ 0 → Run i tick 3 (at-place (before call Walk 0 q preds) m) (at-place (here Check) m₁)
+  to-here tick free = run-on (walk-on tick) (to-check call is-put i 0 None 0 tt k-max m 0 q preds₀ R (tick + 1) free)
 
-  linked₁ : y ≢ 0 → y ≤ m .counts .nodes
-  linked₁ = linked-held call is-put i 0 None 0 tt k-max m 0 q preds₀ (omega arith) used linked stop free
-
-  stop₁ : T (leb k (keyOf m₁ y))
-  stop₁ = stop-held call is-put i 0 None 0 tt k-max m 0 q preds₀ (omega arith) used linked stop free
+  R₁ : Ready m₁ k 0 q
+  R₁ = held-ready call is-put i 0 None 0 tt k-max m 0 q preds₀ R
 
   second-look : (tick : ℕ) (x : Ahead) → ahead m₁ 0 q k ≡ x → turnOf (i + 1) tick (here Check) m₁ ≡ checkBy (here Check .cursor) m₁ x
-  second-look = check-turn call is-put i 0 None 0 tt k-max m 0 q preds₀ (omega arith) used linked stop free
+  second-look = check-turn call is-put i 0 None 0 tt k-max m 0 q preds₀ R
 
   -- ---- the figure's outcome
 
   pub try-is : (bound : ℕ) → 1 ≤ bound → tryInsert alone i bound m q k (call .value) (call .timestamp) (call .top) ≡ closed q (done m call i q)
   unfolding tryInsert done
-  try-is bound pos = ap after
-      (find-lock call is-put i 0 None 0 tt k-max m 0 q preds₀ (omega arith) used linked stop free bound pos)
+  try-is bound pos = ap after (find-lock call is-put i 0 None 0 tt k-max m 0 q preds₀ R bound pos)
     where
       after : Locked → Inserted
       after r = let o = if eqb k (keyOf (r .memory) (r .succ)) then update (r .memory) (r .succ) (call .value) (call .timestamp)
@@ -179,11 +168,11 @@ module _ (m : Memory) (g : Ghost) (b : Map) (N : Nodes m g) (B : Book m b) (call
   update-turn : (tick : ℕ) → y ≢ 0 → turnOf (i + 1) tick (here Update) m₁ ≡ moved (u .memory) (committed (here Update .cursor) (made-of (u .node)) (u .answer))
   unfolding phaseOf updateOf updateAt
   update-turn tick ne =
-      let used-y : y ≤ m .counts .nodes = linked₁ ne in
+      let used-y : y ≤ m .counts .nodes = R₁ .linked ne in
       let p = place-in m g b N B y (omega arith) used-y in
       let x = newest (m₁ .nodes) y in
       let e : x ≡ newest (m .nodes) y = word-field (m .nodes) q y 10 1 (i + 1) (omega arith) (omega arith) (omega arith) in
-      work-turn call is-put i 0 None 0 tt m₁ Update 0 q preds₀ tt (omega arith) used tick
+      work-turn call is-put i 0 None 0 tt m₁ Update 0 q preds₀ tt (omega arith) (R .used) tick
       ∙ if-no (not (usedNode m₁ y)) _ _ (not-not (usedNode m₁ y) (within-T {low = 1} {high = m .counts .nodes} {n = y} (omega arith) used-y))
       ∙ if-no (not (usedVersion m₁ x)) _ _ (not-not (usedVersion m₁ x) (within-T {low = 1} {high = m .counts .versions} {n = x} (omega arith) (omega arith)))
       ∙ sym updates
@@ -203,12 +192,12 @@ module _ (m : Memory) (g : Ghost) (b : Map) (N : Nodes m g) (B : Book m b) (call
   unfolding createAndLink
   create-is = ap (λ (z : Memory). if leb (maxNodes m₁) (m .counts .nodes) then record { memory = m₁; answer = KeysFull; node = none }
       else if leb (maxVersions m₁) (m .counts .versions) then record { memory = m₁; answer = VersionsFull; node = none }
-      else record { memory = z; answer = New; node = some (m .counts .nodes + 1) }) (make-is call (here Make .cursor) m₁ used)
+      else record { memory = z; answer = New; node = some (m .counts .nodes + 1) }) (make-is call (here Make .cursor) m₁ (R .used))
 
   make-turn : (tick : ℕ) → turnOf (i + 1) tick (here Make) m₁ ≡ moved (c .memory) (committed (here Make .cursor) (made-of (c .node)) (c .answer))
   unfolding phaseOf makeOf
   make-turn tick =
-      work-turn call is-put i 0 None 0 tt m₁ Make 0 q preds₀ tt (omega arith) used tick
+      work-turn call is-put i 0 None 0 tt m₁ Make 0 q preds₀ tt (omega arith) (R .used) tick
       ∙ by (leb (maxNodes m₁) (m .counts .nodes)) (leb (maxVersions m₁) (m .counts .versions)) (ltb topLevel (call .top)) low
       ∙ ap (λ (o : Inserted). moved (o .memory) (committed (here Make .cursor) (made-of (o .node)) (o .answer))) (sym create-is)
     where
@@ -248,24 +237,25 @@ module _ (m : Memory) (g : Ghost) (b : Map) (N : Nodes m g) (B : Book m b) (call
       Run i tick 5 (at-place (before call Walk 0 q preds) m) (at-place (pose call Release 0 q preds₀ (made-of (o .node)) (o .answer) (tick + 4)) (o .memory))
       × (Settles m i q o ⊎ Makes m call i q o)
 
-  by-update : (tick : ℕ) → T (eqb k (keyOf m₁ y)) → Bottomed tick u
-  unfolding checkBy processAfter
-  by-update tick t = (
-    run-on (run-on (to-here tick) (run-one (second-look (tick + 3) (Equal y) (ahead-equal m₁ k k-max 0 q linked₁ t)) tt))
-        (run-one (update-turn (tick + 4) (key-same m₁ k k-max y t .0)) tt),
-    inl update-settles,
-  )
+  module _ (free : lock (m .nodes) 0 q ≡ 0) where
+    by-update : (tick : ℕ) → T (eqb k (keyOf m₁ y)) → Bottomed tick u
+    unfolding checkBy processAfter
+    by-update tick t = (
+      run-on (run-on (to-here tick free) (run-one (second-look (tick + 3) (Equal y) (ahead-equal m₁ k k-max 0 q (R₁ .linked) t)) tt))
+          (run-one (update-turn (tick + 4) (key-same m₁ k k-max y t .0)) tt),
+      inl update-settles,
+    )
 
-  by-make : (tick : ℕ) → T (not (eqb k (keyOf m₁ y))) → Bottomed tick c
-  unfolding checkBy processAfter
-  by-make tick t = (
-    run-on (run-on (to-here tick) (run-one (second-look (tick + 3) Past (ahead-past m₁ k k-max 0 q linked₁ stop₁ t)) tt))
-        (run-one (make-turn (tick + 4)) tt),
-    make-sorts,
-  )
+    by-make : (tick : ℕ) → T (not (eqb k (keyOf m₁ y))) → Bottomed tick c
+    unfolding checkBy processAfter
+    by-make tick t = (
+      run-on (run-on (to-here tick free) (run-one (second-look (tick + 3) Past (ahead-past m₁ k k-max 0 q (R₁ .linked) (R₁ .stop) t)) tt))
+          (run-one (make-turn (tick + 4)) tt),
+      make-sorts,
+    )
 
-  pub bottom : (tick : ℕ) → Bottomed tick (done m call i q)
-  unfolding done
-  bottom tick = by-test (eqb k (keyOf m₁ y))
-      (λ t. rw (if-yes (eqb k (keyOf m₁ y)) u c t) (by-update tick t))
-      (λ t. rw (if-no (eqb k (keyOf m₁ y)) u c t) (by-make tick t))
+    pub bottom : (tick : ℕ) → Bottomed tick (done m call i q)
+    unfolding done
+    bottom tick = by-test (eqb k (keyOf m₁ y))
+        (λ t. rw (if-yes (eqb k (keyOf m₁ y)) u c t) (by-update tick t))
+        (λ t. rw (if-no (eqb k (keyOf m₁ y)) u c t) (by-make tick t))

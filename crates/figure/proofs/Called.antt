@@ -23,7 +23,7 @@ use Rattle.model.proofs.Claimed.{performed-live}
 use Rattle.figure.specs.Types.{Kind, Answer, Call, Process, Version, Move, End, Permit, Granted, Denied, Refusal, Starting, StartResult, Stepping}
 use Rattle.figure.specs.Alone.{Turned, turned, moves, Reached, rested}
 use Rattle.figure.proofs.Runs.{Place, at-place, stepped, Run, Ended, run-call}
-use Rattle.figure.proofs.Lifted.{later, place-in, step-ends, Turns, lift}
+use Rattle.figure.proofs.Lifted.{later, place-in, step-ends, placed, Turns, lift}
 
 -- one step more
 pub turned-more : (w : Store) (i n : ℕ) → let before = turned w i n in let o = stepOf (before .store) i in
@@ -93,7 +93,7 @@ module _ (w : Store) (i : ℕ) (call : Call) where
     inside : i < length (w .state .process)
     inside = omega (arith, l .core .array, l .core .processes, length-set (w .state .process) i (begun call))
 
-    here : slot w₁ i ≡ begun call
+    pub here : slot w₁ i ≡ begun call
     here = getD-set-same (w .state .process) i (begun call) noProcess inside
 
     module _ (m : Memory) (a : Answer) (v : Version) (e before : ℕ) (y : Place) (run : Run i (start + 1) before (at-place (begun call) (memory w)) y)
@@ -104,17 +104,17 @@ module _ (w : Store) (i : ℕ) (call : Call) where
       turns : Turns K W w₁ i before y
       turns = lift i before l below (omega arith) y (rw here (run .goes))
 
-      there : slot w₂ i ≡ y .process
-      there = getD-set-same (set (w .state .process) i (begun call)) i (y .process) noProcess (omega (arith, inside, length-set (w .state .process) i (begun call)))
+      there : place-in w₂ i ≡ y
+      there = placed l i below before y
 
       same-call : slot w₂ i .call ≡ call
-      same-call = ap (λ (p : Process). p .call) there ∙ run-call run
+      same-call = ap (λ (x : Place). x .process .call) there ∙ run-call run
 
       tick-is : w₂ .state .events + 1 ≡ start + suc before
       tick-is = omega arith
 
       ends-there : stepped i (w₂ .state .events + 1) (place-in w₂ i) ≡ moved m (End a v e)
-      ends-there = rw (there, tick-is) ends
+      ends-there = ap (λ (z : Place). stepped i (w₂ .state .events + 1) z) there ∙ ap (λ t. stepped i t y) tick-is ∙ ends
 
       left : rested w₂ i 1 m a ≡ rested w i (suc before + 1) m a
       left = rw (

@@ -19,13 +19,13 @@ use Rattle.model.proofs.Tests.{if-yes, if-no, by-test, ne→neqb}
 use Rattle.model.proofs.Words.{word-node}
 use Rattle.model.proofs.Invariant.{Ghost, Nodes}
 use Rattle.model.proofs.Step.{within-T}
-use Rattle.figure.specs.Types.{Kind, Put, Phase, Seek, Check, Update, Make, Link, Release, Answer, New, Call, Cursor, Process, Ahead, Move, Refuse, Go}
+use Rattle.figure.specs.Types.{Kind, Put, Phase, Seek, Lock, Check, Update, Make, Link, Release, Answer, New, Call, Cursor, Process, Ahead, Wait, Go}
 use Rattle.figure.specs.Figure.{MAX, keyOf, Pair, Inserted, link, Locked, release, acquire, alone, findLock, insert, insertAbove}
-use Rattle.figure.proofs.Search.{Finds, link-used, level5}
+use Rattle.figure.proofs.Search.{Finds}
 use Rattle.figure.proofs.Runs.{Place, at-place, Run, run-one, run-on, run-same}
 use Rattle.figure.proofs.Walking.{pose, turn-is, ahead-stop}
 use Rattle.figure.proofs.Writing.{link-is}
-use Rattle.figure.proofs.Locking.{key-kept, work-turn, stop-held, linked-held, to-check, check-turn, find-lock}
+use Rattle.figure.proofs.Locking.{key-kept, Ready, finds-ready, work-turn, held-ready, seek-on, lock-waits, to-check, check-turn, find-lock}
 use Rattle.figure.proofs.Rising.{Risen, link-cursor, linked-risen}
 
 or-right : (a c : Bool) → T c → T (a || c)
@@ -66,10 +66,13 @@ module _ (m : Memory) (g : Ghost) (N : Nodes m g) (call : Call) (is-put : call .
     pub out-is : out ≡ record { memory = release held q l; answer = New; node = some made }
     pub risen : Risen m (release held q l) k l
 
-  module _ (bound : ℕ) (pos : 1 ≤ bound) (steps l q p succ : ℕ) (out : Inserted) (C : Climbed steps l q out) (higher : suc l ≤ call .top)
-      (f : Finds m g k (suc l) (record { pred = p; succ = succ })) (known : getD preds (suc l) 0 ≡ p) (free : lock (m .nodes) (suc l) p ≡ 0) where
+  module _ (bound : ℕ) (pos : 1 ≤ bound) (steps l q : ℕ) {r : Pair} (out : Inserted) (C : Climbed steps l q out) (higher : suc l ≤ call .top)
+      (f : Finds m g k (suc l) r) (known : getD preds (suc l) 0 ≡ r .pred) where
     abbrev L : ℕ
     L = suc l
+
+    abbrev p : ℕ
+    p = r .pred
 
     abbrev M : Memory
     M = release (C .held) q l
@@ -80,26 +83,20 @@ module _ (m : Memory) (g : Ghost) (N : Nodes m g) (call : Call) (is-put : call .
     abbrev S : Phase → Process
     S ph = pose call ph L p preds made New effect
 
-    used-m : p ≤ m .counts .nodes
-    used-m = f .spot .used
-
-    used-M : p ≤ M .counts .nodes
-    used-M = omega (arith, R .nodes-is, used-m)
+    Q : Ready m k L p
+    Q = finds-ready m g N k k-max f
 
     next-M : next (M .nodes) L p ≡ next (m .nodes) L p
-    next-M = R .links L p (omega arith) (omega arith) used-m
+    next-M = R .links L p (omega arith) (omega arith) (Q .used)
 
-    linked-m : next (m .nodes) L p ≢ 0 → next (m .nodes) L p ≤ m .counts .nodes
-    linked-m = link-used m g N k k-max (f .spot)
-
-    linked-M : next (M .nodes) L p ≢ 0 → next (M .nodes) L p ≤ M .counts .nodes
-    linked-M = rw next-M (λ ne. omega (arith, linked-m ne, R .nodes-is))
-
-    stop-M : T (leb k (keyOf M (next (M .nodes) L p)))
-    stop-M = rw (next-M, key-kept m M (next (m .nodes) L p) (λ ne. R .keys (next (m .nodes) L p) (linked-m ne))) (rw (f .succ-is) at (f .stop))
-
-    free-M : lock (M .nodes) L p ≡ 0
-    free-M = R .locks L p (omega arith) used-m ∙ free
+    -- what findLock needs, where the levels below are done
+    Q-M : Ready M k L p
+    Q-M = record {
+      level = omega arith;
+      used = omega (arith, R .nodes-is, Q .used);
+      linked = rw next-M (λ ne. omega (arith, Q .linked ne, R .nodes-is));
+      stop = rw (next-M, key-kept m M (next (m .nodes) L p) (λ ne. R .keys (next (m .nodes) L p) (Q .linked ne))) (Q .stop);
+    }
 
     abbrev M₁ : Memory
     M₁ = acquire alone i M p L
@@ -109,7 +106,7 @@ module _ (m : Memory) (g : Ghost) (N : Nodes m g) (call : Call) (is-put : call .
     lawful = or-right (noEffect (record { answer = New; tick = effect })) (fromPut New) tt
 
     -- release, and up
-    rises : (tick : ℕ) → Run i tick 1 (at-place (releases call is-put i preds made effect l q) (C .held)) (at-place (S Seek) M)
+    pub rises : (tick : ℕ) → Run i tick 1 (at-place (releases call is-put i preds made effect l q) (C .held)) (at-place (pose call Seek L p preds made New effect) M)
     unfolding rise freed processAfter
     rises tick =
         let h = C .held in
@@ -119,24 +116,32 @@ module _ (m : Memory) (g : Ghost) (N : Nodes m g) (call : Call) (is-put : call .
         let up : rise call c preds h (ended call New noVersion effect) ≡ Go (S Seek .cursor) =
         if-no (ltb topLevel (call .top)) _ _ (above topLevel (call .top) top5)
         ∙ if-no (leb (call .top) l) _ _ (beneath (call .top) l higher)
-        ∙ if-no (ltb (h .counts .nodes) z) _ _ (above (h .counts .nodes) z (omega (arith, e, used-M)))
+        ∙ if-no (ltb (h .counts .nodes) z) _ _ (above (h .counts .nodes) z (omega (arith, e, Q-M .used)))
         ∙ ap (λ j. Go (at c Seek j (getD preds j 0))) (add-one l) ∙ ap (λ y. Go (at c Seek L y)) known in
         run-one (release-turn call is-put i preds made effect h l q tick (omega arith) (C .used) ∙ ap (λ v. freed c h v) up) tt
 
-    -- seek, lock
-    locks : (tick : ℕ) → Run i tick 2 (at-place (S Seek) M) (at-place (S Check) M₁)
-    locks = to-check call is-put i made New effect lawful k-max M L p preds (omega arith) used-M linked-M stop-M free-M
+    -- seek
+    pub seeks : (tick : ℕ) → Run i tick 1 (at-place (pose call Seek L p preds made New effect) M) (at-place (pose call Lock L p preds made New effect) M)
+    seeks = seek-on call is-put i made New effect lawful k-max M L p preds Q-M
+
+    -- a lock that is held
+    pub waits : (tick : ℕ) → lock (m .nodes) L p ≢ 0 → turnOf (i + 1) tick (pose call Lock L p preds made New effect) M ≡ moved M Wait
+    waits tick taken = lock-waits call is-put i made New effect lawful k-max M L p preds Q-M tick (λ e. taken (sym (R .locks L p (omega arith) (Q .used)) ∙ e))
+
+    -- seek and lock
+    locks : (tick : ℕ) → lock (m .nodes) L p ≡ 0 → Run i tick 2 (at-place (S Seek) M) (at-place (S Check) M₁)
+    locks tick free = to-check call is-put i made New effect lawful k-max M L p preds Q-M tick (R .locks L p (omega arith) (Q .used) ∙ free)
 
     -- check
     checks : (tick : ℕ) → Run i tick 1 (at-place (S Check) M₁) (at-place (S Link) M₁)
     unfolding checkBy processAfter
     checks tick =
+        let H = held-ready call is-put i made New effect lawful k-max M L p preds Q-M in
         let goal : Ahead → Type 0 = λ a. checkBy (S Check .cursor) M₁ a ≡ moved M₁ (Go (S Link .cursor)) in
         let to-link : (bottom : Phase) → moved M₁ (Go (at (S Check .cursor) (if eqb L 0 then bottom else Link) L p)) ≡ moved M₁ (Go (S Link .cursor)) =
         λ bottom. ap (λ ph. moved M₁ (Go (at (S Check .cursor) ph L p))) (if-no (eqb L 0) bottom Link (ne→neqb L 0 (omega arith))) in
-        run-one (check-turn call is-put i made New effect lawful k-max M L p preds (omega arith) used-M linked-M stop-M free-M tick (ahead M₁ L p k) refl
-        ∙ ahead-stop M₁ k k-max L p (linked-held call is-put i made New effect lawful k-max M L p preds (omega arith) used-M linked-M stop-M free-M)
-        goal (stop-held call is-put i made New effect lawful k-max M L p preds (omega arith) used-M linked-M stop-M free-M) (to-link Update) (to-link Make)) tt
+        run-one (check-turn call is-put i made New effect lawful k-max M L p preds Q-M tick (ahead M₁ L p k) refl
+        ∙ ahead-stop M₁ k k-max L p (H .linked) goal (H .stop) (to-link Update) (to-link Make)) tt
 
     abbrev held′ : Memory
     held′ = addLink (S Link .cursor) M₁
@@ -144,18 +149,18 @@ module _ (m : Memory) (g : Ghost) (N : Nodes m g) (call : Call) (is-put : call .
     -- link
     links : (tick : ℕ) → Run i tick 1 (at-place (S Link) M₁) (at-place (S Release) held′)
     unfolding phaseOf linkOf processAfter
-    links tick = run-one (work-turn call is-put i made New effect lawful M₁ Link L p preds tt (omega arith) used-M tick
+    links tick = run-one (work-turn call is-put i made New effect lawful M₁ Link L p preds tt (omega arith) (Q-M .used) tick
         ∙ if-yes (usedNode M₁ made) _ _ (within-T {low = 1} {high = M .counts .nodes} {n = made} (omega arith) (omega (arith, R .nodes-is)))) tt
 
     -- ---- the figure's insert
 
     own-free : lock (M₁ .nodes) L made ≡ 0
-    own-free = word-node (M .nodes) p made (10 + L) (10 + L) (i + 1) (omega arith) (omega arith) (omega (arith, used-m)) ∙ R .own-locks L (omega arith)
+    own-free = word-node (M .nodes) p made (10 + L) (10 + L) (i + 1) (omega arith) (omega arith) (omega (arith, Q .used)) ∙ R .own-locks L (omega arith)
 
     insert-is : insert alone i bound M p L made ≡ release held′ p L
     unfolding insert
     insert-is = ap after (ap (λ z. findLock alone i bound M p z L) (R .key-is)
-        ∙ find-lock call is-put i made New effect lawful k-max M L p preds (omega arith) used-M linked-M stop-M free-M bound pos)
+        ∙ find-lock call is-put i made New effect lawful k-max M L p preds Q-M bound pos)
         ∙ ap (λ (z : Memory). release z p L) (link-is (S Link .cursor) M₁ (omega arith) own-free)
       where
         after : Locked → Memory
@@ -166,12 +171,12 @@ module _ (m : Memory) (g : Ghost) (N : Nodes m g) (call : Call) (is-put : call .
     above-is = ap (λ (o : Inserted). insertAbove alone i bound o p L (o .node)) (C .out-is)
         ∙ ap (λ (z : Memory). record { memory = z; answer = New; node = some made }) insert-is
 
-    pub climb : Climbed (steps + 5) L p (insertAbove alone i bound out p L (out .node))
-    climb = record {
+    pub climb : lock (m .nodes) L p ≡ 0 → Climbed (steps + 5) L p (insertAbove alone i bound out p L (out .node))
+    climb free = record {
       held = held′;
-      run = run-same (omega arith) (run-on (C .run) (run-on (rises (start + 1 + steps)) (run-on (locks (start + 1 + steps + 1))
+      run = run-same (omega arith) (run-on (C .run) (run-on (rises (start + 1 + steps)) (run-on (locks (start + 1 + steps + 1) free)
           (run-on (checks (start + 1 + steps + 1 + 2)) (links (start + 1 + steps + 1 + 2 + 1))))));
-      used = unfold addLink in used-M;
+      used = unfold addLink in (Q-M .used);
       out-is = above-is;
-      risen = linked-risen m M k l i p R (omega arith) used-m free;
+      risen = linked-risen m M k l i p R (omega arith) (Q .used) free;
     }

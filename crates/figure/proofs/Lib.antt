@@ -13,3 +13,4 @@ pub mod Climbing
 pub mod Putting
 pub mod PutAlone
 pub mod Unlocked
+pub mod PutWaits

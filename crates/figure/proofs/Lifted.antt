@@ -139,6 +139,12 @@ later-on w i a b x y = rw (set-set (w .state .process) i (x .process) (y .proces
 later-none : (w : Store) (i : ℕ) → later w i 0 (place-in w i) ≡ w
 later-none w i = rw (set-getD (w .state .process) i noProcess, add-zero (w .state .events))
 
+-- there process i stands where it was put
+pub placed : {K W : ℕ} {w : Store} {h : History} → Live K W w h → (i : ℕ) → i < w .state .processes → (n : ℕ) (y : Place)
+    → place-in (later w i n y) i ≡ y
+placed {w = w} l i below n y = ap (λ (p : Process). at-place p (y .memory))
+    (getD-set-same (w .state .process) i (y .process) noProcess (omega (arith, l .core .array, l .core .processes)))
+
 -- the store after n steps, and that it is one of demand 3
 pub record Turns (K W : ℕ) (w : Store) (i n : ℕ) (y : Place) : Type 0 where
   pub turns : turned w i n ≡ record { outcomes = moves (w .state .events + 1) n; store = later w i n y }
@@ -162,8 +168,7 @@ lift {K} {W} i (suc n) {w} {h} l below time y go =
     step-goes l i below (omega arith) v (x .memory) refl (go .0) in
     let l₁ : Live K W w₁ (sawStep h i (Stepping.Moved t)) =
     subst (λ (o : Stepped). Live K W (o .store) (sawStep h i (o .outcome))) s (step-live l i) in
-    let here : place-in w₁ i ≡ x =
-    ap (λ (p : Process). at-place p (x .memory)) (getD-set-same (w .state .process) i (x .process) noProcess (omega (arith, l .core .array, l .core .processes))) in
+    let here : place-in w₁ i ≡ x = placed l i below 1 x in
     let rest = lift i n l₁ below (omega arith) y (rw (add-one t, here) (go .1)) in
     let e : later w₁ i n y ≡ later w i (suc n) y = later-on w i 1 n x y ∙ ap (λ k. later w i k y) (one-more n) in
     record {

@@ -12,9 +12,10 @@ use Rattle.model.specs.Phases.{Moved, moved, at, ahead, seekBy, seekOf, lockOf,
 use Rattle.model.specs.Calls.{processAfter}
 use Rattle.model.proofs.Tests.{if-yes, if-no, by-eq, eq→eqb, ne→neqb}
 use Rattle.model.proofs.Words.{word-field}
-use Rattle.figure.specs.Types.{Kind, Put, Phase, Walk, Read, Seek, Lock, Check, Update, Make, Link, Release, Answer, Call, Process, Ahead, Go}
+use Rattle.model.proofs.Invariant.{Ghost, Nodes}
+use Rattle.figure.specs.Types.{Kind, Put, Phase, Walk, Read, Seek, Lock, Check, Update, Make, Link, Release, Answer, Call, Process, Ahead, Wait, Go}
 use Rattle.figure.specs.Figure.{MAX, tail, keyOf, Pair, find, Locked, acquire, alone, findLock}
-use Rattle.figure.proofs.Search.{find-stop}
+use Rattle.figure.proofs.Search.{Finds, find-stop, link-used, level5}
 use Rattle.figure.proofs.Runs.{at-place, Run, run-one, run-on}
 use Rattle.figure.proofs.Walking.{pose, turn-is, ahead-stop}
 
@@ -24,6 +25,22 @@ unfolding keyOf
 key-kept m m′ y e = by-eq y tail
     (λ z. if-yes {A = ℕ} (eqb y tail) _ _ (eq→eqb y tail z) ∙ sym (if-yes {A = ℕ} (eqb y tail) _ _ (eq→eqb y tail z)))
     (λ n. if-no {A = ℕ} (eqb y tail) _ _ (ne→neqb y tail n) ∙ e n ∙ sym (if-no {A = ℕ} (eqb y tail) _ _ (ne→neqb y tail n)))
+
+-- q is in use on level l, and its link there leads to k or past it: where findLock takes the lock
+pub record Ready (m : Memory) (k l q : ℕ) : Type 0 where
+  pub level : l ≤ 5
+  pub used : q ≤ m .counts .nodes
+  pub linked : next (m .nodes) l q ≢ 0 → next (m .nodes) l q ≤ m .counts .nodes
+  pub stop : T (leb k (keyOf m (next (m .nodes) l q)))
+
+-- find stops so
+pub finds-ready : (m : Memory) (g : Ghost) → Nodes m g → (k : ℕ) → k < MAX → {l : ℕ} {r : Pair} → Finds m g k l r → Ready m k l (r .pred)
+finds-ready m g N k k-max {l} {r} f = record {
+  level = level5 m g N k k-max (f .spot);
+  used = f .spot .used;
+  linked = link-used m g N k k-max (f .spot);
+  stop = rw (f .succ-is) at (f .stop);
+}
 
 -- the phases of a put that stands under no lock or works under one; its effect is before it, or its answer one of a put's
 abbrev Works : Phase → Type 0
@@ -56,51 +73,62 @@ module _ (call : Call) (is-put : call .kind ≡ Put) (i made : ℕ) (a : Answer)
   work-turn m ph l q preds w l5 used tick = turn-is (i + 1) tick (pose call ph l q preds made a e) m l5 used
       (subst (λ kind. T (lawfulAt kind ph (record { answer = a; tick = e }))) (sym is-put) (lawful-at ph w))
 
-  module _ (k-max : call .key < MAX) (m : Memory) (l q : ℕ) (preds : List ℕ) (l5 : l ≤ 5) (used : q ≤ m .counts .nodes)
-      (linked : next (m .nodes) l q ≢ 0 → next (m .nodes) l q ≤ m .counts .nodes)
-      (stop : T (leb (call .key) (keyOf m (next (m .nodes) l q)))) (free : lock (m .nodes) l q ≡ 0) where
+  module _ (k-max : call .key < MAX) (m : Memory) (l q : ℕ) (preds : List ℕ) (R : Ready m (call .key) l q) where
     abbrev k : ℕ
     k = call .key
 
-    abbrev pub stands : Phase → Process
+    abbrev stands : Phase → Process
     stands ph = pose call ph l q preds made a e
 
-    abbrev pub held : Memory
+    -- memory when the lock is taken
+    abbrev held : Memory
     held = acquire alone i m q l
 
-    pub next-held : (j x : ℕ) → j ≤ 5 → next (held .nodes) j x ≡ next (m .nodes) j x
-    next-held j x j5 = word-field (m .nodes) q x (10 + l) (4 + j) (i + 1) (omega arith) (omega arith) (omega arith)
+    next-held : next (held .nodes) l q ≡ next (m .nodes) l q
+    next-held = word-field (m .nodes) q q (10 + l) (4 + l) (i + 1) (omega (arith, R .level)) (omega (arith, R .level)) (omega arith)
 
-    pub key-held : (x : ℕ) → key (held .nodes) x ≡ key (m .nodes) x
-    key-held x = word-field (m .nodes) q x (10 + l) 0 (i + 1) (omega arith) (omega arith) (omega arith)
+    key-held : (x : ℕ) → key (held .nodes) x ≡ key (m .nodes) x
+    key-held x = word-field (m .nodes) q x (10 + l) 0 (i + 1) (omega (arith, R .level)) (omega arith) (omega arith)
 
-    pub stop-held : T (leb k (keyOf held (next (held .nodes) l q)))
-    stop-held = rw (next-held l q l5, key-kept m held (next (m .nodes) l q) (λ _. key-held (next (m .nodes) l q))) stop
+    -- nothing of this has changed then
+    pub held-ready : Ready held k l q
+    held-ready = record {
+      level = R .level;
+      used = R .used;
+      linked = rw next-held (R .linked);
+      stop = rw (next-held, key-kept m held (next (m .nodes) l q) (λ _. key-held (next (m .nodes) l q))) (R .stop);
+    }
 
-    pub linked-held : next (held .nodes) l q ≢ 0 → next (held .nodes) l q ≤ m .counts .nodes
-    linked-held = rw (next-held l q l5) linked
-
-    seek-on : (tick : ℕ) → Run i tick 1 (at-place (stands Seek) m) (at-place (stands Lock) m)
+    pub seek-on : (tick : ℕ) → Run i tick 1 (at-place (stands Seek) m) (at-place (stands Lock) m)
     unfolding phaseOf seekOf seekBy processAfter
-    seek-on tick = run-one (work-turn m Seek l q preds tt l5 used tick
-        ∙ ahead-stop m k k-max l q linked (λ x. moved m (seekBy (stands Seek .cursor) x) ≡ moved m (Go (stands Lock .cursor))) stop refl refl) tt
+    seek-on tick = run-one (work-turn m Seek l q preds tt (R .level) (R .used) tick
+        ∙ ahead-stop m k k-max l q (R .linked) (λ x. moved m (seekBy (stands Seek .cursor) x) ≡ moved m (Go (stands Lock .cursor))) (R .stop) refl refl) tt
 
-    lock-on : (tick : ℕ) → Run i tick 1 (at-place (stands Lock) m) (at-place (stands Check) held)
-    unfolding phaseOf lockOf processAfter
-    lock-on tick = run-one (work-turn m Lock l q preds tt l5 used tick ∙ if-yes (eqb (lock (m .nodes) l q) 0) _ _ (eq→eqb (lock (m .nodes) l q) 0 free)) tt
+    lock-turn : (tick : ℕ) → turnOf (i + 1) tick (stands Lock) m ≡ lockOf (stands Lock .cursor) (i + 1) m
+    unfolding phaseOf
+    lock-turn = work-turn m Lock l q preds tt (R .level) (R .used)
 
-    pub to-check : (tick : ℕ) → Run i tick 2 (at-place (stands Seek) m) (at-place (stands Check) held)
-    to-check tick = run-on (seek-on tick) (lock-on (tick + 1))
+    lock-on : (tick : ℕ) → lock (m .nodes) l q ≡ 0 → Run i tick 1 (at-place (stands Lock) m) (at-place (stands Check) held)
+    unfolding lockOf processAfter
+    lock-on tick free = run-one (lock-turn tick ∙ if-yes (eqb (lock (m .nodes) l q) 0) _ _ (eq→eqb (lock (m .nodes) l q) 0 free)) tt
+
+    -- a lock that is held
+    pub lock-waits : (tick : ℕ) → lock (m .nodes) l q ≢ 0 → turnOf (i + 1) tick (stands Lock) m ≡ moved m Wait
+    unfolding lockOf
+    lock-waits tick taken = lock-turn tick ∙ if-no (eqb (lock (m .nodes) l q) 0) _ _ (ne→neqb (lock (m .nodes) l q) 0 taken)
+
+    pub to-check : (tick : ℕ) → lock (m .nodes) l q ≡ 0 → Run i tick 2 (at-place (stands Seek) m) (at-place (stands Check) held)
+    to-check tick free = run-on (seek-on tick) (lock-on (tick + 1) free)
 
     -- the second look, under the lock
     pub check-turn : (tick : ℕ) (x : Ahead) → ahead held l q k ≡ x
         → turnOf (i + 1) tick (stands Check) held ≡ checkBy (stands Check .cursor) held x
     unfolding phaseOf checkOf
-    check-turn tick x z = work-turn held Check l q preds tt l5 used tick ∙ ap (λ o. checkBy (stands Check .cursor) held o) z
+    check-turn tick x z = work-turn held Check l q preds tt (R .level) (R .used) tick ∙ ap (λ o. checkBy (stands Check .cursor) held o) z
 
     pub find-lock : (bound : ℕ) → 1 ≤ bound
         → findLock alone i bound m q k l ≡ record { memory = held; pred = q; succ = next (held .nodes) l q }
     unfolding findLock
-    find-lock zero some = absurd (omega arith)
-    find-lock (suc bound) some =
-        rw (find-stop (suc bound) m q k l stop) (if-yes (leb k (keyOf held (next (held .nodes) l q))) _ _ stop-held)
+    find-lock zero pos = absurd (omega arith)
+    find-lock (suc bound) pos =
+        rw (find-stop (suc bound) m q k l (R .stop)) (if-yes (leb k (keyOf held (next (held .nodes) l q))) _ _ (held-ready .stop))

@@ -5,6 +5,7 @@ use mathlib.Core.List.{List}
 use mathlib.Core.Logic.{_≢_, _⊎_, inl, inr}
 use mathlib.Core.Option.{Option, none, some}
 use mathlib.Core.Path.{_≡_, refl, sym, ap, _∙_, subst}
+use native.Mathlib.Nat.{add-zero}
 use native.Mathlib.Omega.{arith}
 use lib.Dec.{T, leb, ltb, le→leb}
 use lib.ListN.{length, getD, set, replicate}
@@ -18,19 +19,19 @@ use Rattle.model.specs.Calls.{begun}
 use Rattle.model.proofs.Tests.{if-yes, if-no, by-eq}
 use Rattle.model.proofs.Words.{word-same, word-other}
 use Rattle.model.proofs.Invariant.{Ghost, Nodes, Book}
-use Rattle.figure.specs.Types.{Kind, Idle, Put, Release, Answer, TooOld, VersionsFull, Added, KeysFull, New, Found, None, Call, Process, End}
-use Rattle.figure.specs.Figure.{HMAX, MAX, head, Pair, find, findAll, Inserted, release, alone, tryInsert, insertAbove, insertAll, putH}
+use Rattle.figure.specs.Types.{Kind, Idle, Put, Lock, Release, Answer, TooOld, VersionsFull, Added, KeysFull, New, Found, None, Call, Process, End}
+use Rattle.figure.specs.Figure.{HMAX, MAX, head, Pair, find, findAll, Inserted, release, alone, tryInsert, insertAbove, insertAll, putH, leftBelow}
 use Rattle.figure.specs.Steps.{hopsDown, searchSteps, stepsAfter, stepsOf}
 use Rattle.figure.proofs.Search.{Finds, at-head, all-finds, all-next}
-use Rattle.figure.proofs.Runs.{Place, at-place, Run, run-on, run-same, Ended}
-use Rattle.figure.proofs.Walking.{pose, turn-is, walks, Walked, walk-down}
-use Rattle.figure.proofs.Bottom.{put-busy, made-of, Plain, done, closed, try-is, Settles, Makes, bottom}
+use Rattle.figure.proofs.Runs.{Place, at-place, Run, run-on, run-same, Ended, Waiting}
+use Rattle.figure.proofs.Walking.{pose, turn-is, Walked, walk-down}
+use Rattle.figure.proofs.Bottom.{put-busy, made-of, Plain, done, closed, try-is, Settles, Makes, walk-on, bottom}
+use Rattle.figure.proofs.Locking.{finds-ready, seek-on, lock-waits}
 use Rattle.figure.proofs.Rising.{Risen, made-risen}
-use Rattle.figure.proofs.Climbing.{above, releases, release-turn, Climbed, climb}
+use Rattle.figure.proofs.Climbing.{above, releases, release-turn, Climbed, climb, rises, seeks, waits}
 
 module _ (m : Memory) (g : Ghost) (b : Map) (N : Nodes m g) (B : Book m b) (call : Call) (is-put : call .kind ≡ Put)
-    (k-low : 1 ≤ call .key) (k-max : call .key < MAX) (top5 : call .top ≤ 5) (bound : ℕ) (enough : m .counts .nodes < bound)
-    (i start : ℕ) (free : (l : ℕ) → l ≤ call .top → lock (m .nodes) l (findAll bound m head (call .key) HMAX l .pred) ≡ 0) where
+    (k-low : 1 ≤ call .key) (k-max : call .key < MAX) (top5 : call .top ≤ 5) (bound : ℕ) (enough : m .counts .nodes < bound) (i start : ℕ) where
   abbrev k : ℕ
   k = call .key
 
@@ -44,7 +45,7 @@ module _ (m : Memory) (g : Ghost) (b : Map) (N : Nodes m g) (B : Book m b) (call
   finds-at : (l : ℕ) → l ≤ HMAX → Finds m g k l (findAll bound m head k HMAX l)
   finds-at l le = all-finds m g N k k-max bound (omega arith) HMAX head l le (at-head m g N k k-max k-low)
 
-  -- the figure's outcome when it has come up to level l
+  -- what the figure has left when it has come up to level l
   abbrev out : ℕ → Inserted
   out l = insertAll alone i bound m (path l) k (call .value) (call .timestamp) h l
 
@@ -53,24 +54,13 @@ module _ (m : Memory) (g : Ghost) (b : Map) (N : Nodes m g) (B : Book m b) (call
   out-next l lt = ap (λ (r : Pair). let o = insertAll alone i bound m (r .pred) k (call .value) (call .timestamp) h l in
       insertAbove alone i bound o (path (suc l)) (suc l) (o .node)) (sym (all-next m g N k k-max bound head HMAX l lt))
 
-  -- ---- walk and bottom
+  -- ---- the walk
 
-  abbrev busy : call .kind ≢ Idle
-  busy = put-busy call is-put
-
-  W : Walked m g N call busy k-max i bound (start + 1) HMAX head (replicate 6 0)
-  W = walk-down m g N call busy k-max i bound (omega arith) HMAX head (start + 1) (replicate 6 0) (omega arith) (at-head m g N k k-max k-low)
+  W : Walked m g N call (put-busy call is-put) k-max i bound (start + 1) HMAX head (replicate 6 0)
+  W = walk-down m g N call (put-busy call is-put) k-max i bound (omega arith) HMAX head (start + 1) (replicate 6 0) (omega arith) (at-head m g N k k-max k-low)
 
   abbrev walked : ℕ
   walked = hopsDown bound m head k HMAX + HMAX
-
-  -- the tick of its effect
-  abbrev effect : ℕ
-  effect = start + 1 + walked + 4
-
-  -- what the figure leaves at the bottom
-  abbrev o : Inserted
-  o = done m call i (path 0)
 
   abbrev preds : List ℕ
   preds = set (W .preds′) 0 (path 0)
@@ -78,28 +68,38 @@ module _ (m : Memory) (g : Ghost) (b : Map) (N : Nodes m g) (B : Book m b) (call
   known : (l : ℕ) → suc l ≤ HMAX → getD preds (suc l) 0 ≡ path (suc l)
   known l le = getD-set-other (W .preds′) 0 (suc l) (path 0) 0 (omega arith) ∙ W .known (suc l) (omega arith) le
 
-  abbrev at-bottom : Inserted → Type 0
-  at-bottom o = Run i (start + 1) (walked + 5) (at-place (begun call) m)
-      (at-place (pose call Release 0 (path 0) preds (made-of (o .node)) (o .answer) effect) (o .memory))
-      × (Settles m i (path 0) o ⊎ Makes m call i (path 0) o)
+  -- the tick of its effect
+  abbrev effect : ℕ
+  effect = start + 1 + walked + 4
 
-  low : at-bottom o
-  low =
-      let r = bottom m g b N B call is-put k-max top5 i (path 0) (W .preds′) (findAll bound m head k HMAX 0 .succ) (finds-at 0 (omega arith)) (free 0 (omega arith)) (start + 1 + walked) in
-      (run-on (W .run) (r .0), r .1)
+  effect-is : effect ≡ start + (searchSteps bound m k + 4)
+  unfolding searchSteps
+  effect-is = omega arith
+
+  -- ---- the bottom
+
+  abbrev o : Inserted
+  o = done m call i (path 0)
 
   out-zero : out 0 ≡ closed (path 0) o
   unfolding insertAll
-  out-zero = try-is m g b N B call is-put k-max top5 i (path 0) (W .preds′) (findAll bound m head k HMAX 0 .succ) (finds-at 0 (omega arith)) (free 0 (omega arith)) bound (omega arith)
+  out-zero = try-is m g b N B call is-put k-max top5 i (finds-at 0 (omega arith)) (W .preds′) bound (omega arith)
 
-  -- ---- the end
+  low : lock (m .nodes) 0 (path 0) ≡ 0
+      → Run i (start + 1) (walked + 5) (at-place (begun call) m)
+      (at-place (pose call Release 0 (path 0) preds (made-of (o .node)) (o .answer) effect) (o .memory))
+      × (Settles m i (path 0) o ⊎ Makes m call i (path 0) o)
+  low free =
+      let r = bottom m g b N B call is-put k-max top5 i (finds-at 0 (omega arith)) (W .preds′) free (start + 1 + walked) in
+      (run-on (W .run) (r .0), r .1)
+
+  -- ---- a put that made no node: its release is its end
 
   -- what is to be shown of the figure's outcome
   abbrev Ends : Inserted → Type 0
   Ends r = Ended i start (stepsOf bound m k (r .answer) h) (at-place (begun call) m) (r .memory) (r .answer) (ownVersion call)
       (start + (searchSteps bound m k + 4))
 
-  -- a put that made no node: its release is its end
   plain-turn : (m₂ : Memory) (made tick e : ℕ) (a : Answer) → Plain a → path 0 ≤ m₂ .counts .nodes
       → turnOf (i + 1) tick (pose call Release 0 (path 0) preds made a e) m₂ ≡ moved (release m₂ (path 0) 0) (End a (ownVersion call) e)
   unfolding phaseOf releaseOf released isNew placeOf freed lawfulAt fromPut
@@ -129,30 +129,26 @@ module _ (m : Memory) (g : Ghost) (b : Map) (N : Nodes m g) (B : Book m b) (call
       ∙ ap (λ (r : Inserted). insertAbove alone i bound r (path (suc l)) (suc l) (r .node)) (settled-out s l (omega arith))
       ∙ ap (λ (n : Option ℕ). insertAbove alone i bound (closed (path 0) o) (path (suc l)) (suc l) n) (s .node)
 
-  effect-is : effect ≡ start + (searchSteps bound m k + 4)
-  unfolding searchSteps
-  effect-is = omega arith
-
-  settled-ends : Settles m i (path 0) o → Ends (closed (path 0) o)
-  settled-ends s = record {
+  settled-ends : lock (m .nodes) 0 (path 0) ≡ 0 → Settles m i (path 0) o → Ends (closed (path 0) o)
+  settled-ends free s = record {
     before = walked + 5;
     steps-is = plain-steps (o .answer) (s .answer);
     last = at-place (pose call Release 0 (path 0) preds (made-of (o .node)) (o .answer) effect) (o .memory);
-    run = low .0;
+    run = low free .0;
     ends = plain-turn (o .memory) (made-of (o .node)) _ effect (o .answer) (s .answer) (omega (arith, s .same, finds-at 0 (omega arith) .spot .used))
         ∙ ap (λ t. moved (release (o .memory) (path 0) 0) (End (o .answer) (ownVersion call) t)) effect-is;
   }
 
-  -- ---- a put that made a node: it climbs to its top
+  -- ---- a put that made a node climbs as far as the locks are free
 
   abbrev Up : (l : ℕ) → Type 0
   Up l = Climbed m g N call is-put k-max top5 i start effect (at-place (begun call) m) preds (walked + 5 + 5 * l) l (path l) (out l)
 
-  made-up : Makes m call i (path 0) o → Up 0
-  made-up M = record {
+  made-up : lock (m .nodes) 0 (path 0) ≡ 0 → Makes m call i (path 0) o → Up 0
+  made-up free M = record {
     held = o .memory;
     run = run-same (omega arith) (subst (λ (r : Inserted). Run i (start + 1) (walked + 5) (at-place (begun call) m)
-        (at-place (pose call Release 0 (path 0) preds (made-of (r .node)) (r .answer) effect) (r .memory))) shape (low .0));
+        (at-place (pose call Release 0 (path 0) preds (made-of (r .node)) (r .answer) effect) (r .memory))) shape (low free .0));
     used = omega (arith, risen .nodes-is, used);
     out-is = out-zero ∙ ap (closed (path 0)) shape;
     risen = risen;
@@ -165,20 +161,23 @@ module _ (m : Memory) (g : Ghost) (b : Map) (N : Nodes m g) (B : Book m b) (call
       used = finds-at 0 (omega arith) .spot .used
 
       risen : Risen m (release (o .memory) (path 0) 0) k 0
-      risen = rw (M .memory) (made-risen m call i (path 0) (N .size) (M .room) used (free 0 (omega arith)))
+      risen = rw (M .memory) (made-risen m call i (path 0) (N .size) (M .room) used free)
 
-  all-up : Makes m call i (path 0) o → (l : ℕ) → l ≤ h → Up l
-  all-up M zero le = made-up M
-  all-up M (suc l) le = subst
+  climbs : (l : ℕ) → suc l ≤ h → lock (m .nodes) (suc l) (path (suc l)) ≡ 0 → Up l → Up (suc l)
+  climbs l le free U = subst
       (λ (r : Inserted). Climbed m g N call is-put k-max top5 i start effect (at-place (begun call) m) preds (walked + 5 + 5 * suc l) (suc l) (path (suc l)) r)
       (sym (out-next l (omega arith)))
       (subst (λ n. Climbed m g N call is-put k-max top5 i start effect (at-place (begun call) m) preds n (suc l) (path (suc l))
       (insertAbove alone i bound (out l) (path (suc l)) (suc l) (out l .node))) (sum walked l)
-      (climb m g N call is-put k-max top5 i start effect (at-place (begun call) m) preds bound (omega arith) (walked + 5 + 5 * l) l (path l) (path (suc l))
-      (findAll bound m head k HMAX (suc l) .succ) (out l) (all-up M l (omega arith)) le (finds-at (suc l) (omega arith)) (known l (omega arith)) (free (suc l) le)))
+      (climb m g N call is-put k-max top5 i start effect (at-place (begun call) m) preds bound (omega arith) (walked + 5 + 5 * l) l (path l) (out l)
+      U le (finds-at (suc l) (omega arith)) (known l (omega arith)) free))
     where
       sum : (w l : ℕ) → w + 5 + 5 * l + 5 ≡ w + 5 + 5 * suc l
       sum w l = omega arith
+
+  all-up : Makes m call i (path 0) o → (l : ℕ) → l ≤ h → ((j : ℕ) → j ≤ l → lock (m .nodes) j (path j) ≡ 0) → Up l
+  all-up M zero le free = made-up (free 0 (omega arith)) M
+  all-up M (suc l) le free = climbs l le (free (suc l) (omega arith)) (all-up M l (omega arith) (λ j jl. free j (omega arith)))
 
   top-turn : (held : Memory) (tick : ℕ) → path h ≤ held .counts .nodes
       → turnOf (i + 1) tick (releases call is-put i preds (m .counts .nodes + 1) effect h (path h)) held
@@ -199,54 +198,108 @@ module _ (m : Memory) (g : Ghost) (b : Map) (N : Nodes m g) (B : Book m b) (call
     ends = top-turn (U .held) _ (U .used) ∙ ap (λ t. moved (release (U .held) (path h) h) (End New (ownVersion call) t)) effect-is;
   })
 
-  pub put-ends : Ends (putH alone i bound m k (call .value) (call .timestamp) h)
-  unfolding putH
-  put-ends = by (low .1)
+  -- ---- where a lock is held, it comes to it and waits
+
+  waits-low : lock (m .nodes) 0 (path 0) ≢ 0 → Waiting i start (searchSteps bound m k + 1) (at-place (begun call) m) m
+  unfolding searchSteps
+  waits-low taken =
+      let f = finds-at 0 (omega arith) in
+      let R = finds-ready m g N k k-max f in
+      record {
+        process = pose call Lock 0 (path 0) preds 0 None 0;
+        run = run-same (omega arith) (run-on (run-on (W .run) (walk-on m g b N B call is-put k-max top5 i f (W .preds′) (start + 1 + walked)))
+            (seek-on call is-put i 0 None 0 tt k-max m 0 (path 0) preds R (start + 1 + (walked + 1))));
+        waits = λ tick. lock-waits call is-put i 0 None 0 tt k-max m 0 (path 0) preds R tick taken;
+      }
+
+  waits-up : (l : ℕ) → suc l ≤ h → lock (m .nodes) (suc l) (path (suc l)) ≢ 0 → Up l
+      → Waiting i start (searchSteps bound m k + 1 + 5 * suc l) (at-place (begun call) m) (out l .memory)
+  unfolding searchSteps
+  waits-up l le taken U =
+      let f = finds-at (suc l) (omega arith) in
+      let x = at-place (begun call) m in
+      rw (U .out-is) (record {
+        process = pose call Lock (suc l) (path (suc l)) preds (m .counts .nodes + 1) New effect;
+        run = run-same (omega arith) (run-on (run-on (U .run)
+            (rises m g N call is-put k-max top5 i start effect x preds bound (omega arith) (walked + 5 + 5 * l) l (path l) (out l) U le f (known l (omega arith)) (start + 1 + (walked + 5 + 5 * l))))
+            (seeks m g N call is-put k-max top5 i start effect x preds bound (omega arith) (walked + 5 + 5 * l) l (path l) (out l) U le f (known l (omega arith)) (start + 1 + (walked + 5 + 5 * l + 1))));
+        waits = λ tick. waits m g N call is-put k-max top5 i start effect x preds bound (omega arith) (walked + 5 + 5 * l) l (path l) (out l) U le f (known l (omega arith)) tick taken;
+      })
+
+  -- the answer is that of the bottom level
+  answers : (l : ℕ) → l ≤ HMAX → out l .answer ≡ o .answer
+  unfolding insertAbove
+  answers zero le = ap (λ (r : Inserted). r .answer) out-zero
+  answers (suc l) le = ap (λ (r : Inserted). r .answer) (out-next l (omega arith)) ∙ kept (out l) (out l .node) ∙ answers l (omega arith)
     where
-      by : Settles m i (path 0) o ⊎ Makes m call i (path 0) o → Ends (out h)
-      by (inl s) = rw (settled-out s h top5) (settled-ends s)
-      by (inr M) = made-ends (all-up M h (omega arith))
+      kept : (r : Inserted) (n : Option ℕ) → insertAbove alone i bound r (path (suc l)) (suc l) n .answer ≡ r .answer
+      kept r none = refl
+      kept r (some n) = refl
 
-  -- ---- its locks are free again
-
-  abbrev LocksKept : Memory → Type 0
-  LocksKept M = (l x : ℕ) → l ≤ 5 → (x ≤ m .counts .nodes → lock (M .nodes) l x ≡ lock (m .nodes) l x)
-      × (m .counts .nodes < x → x ≤ M .counts .nodes → lock (M .nodes) l x ≡ 0)
-
-  settled-locks : Settles m i (path 0) o → LocksKept (release (o .memory) (path 0) 0)
-  settled-locks s l x l5 = (kept, λ lt le. absurd (omega (arith, s .same)))
+  pub put-waits : (l : ℕ) → l ≤ h → ((j : ℕ) → j < l → lock (m .nodes) j (path j) ≡ 0) → lock (m .nodes) l (path l) ≢ 0
+      → (l ≢ 0 → putH alone i bound m k (call .value) (call .timestamp) h .answer ≡ New)
+      → Waiting i start (searchSteps bound m k + 1 + 5 * l) (at-place (begun call) m) (leftBelow alone i bound m k (call .value) (call .timestamp) h l)
+  unfolding putH leftBelow
+  put-waits zero le free taken new =
+      subst (λ n. Waiting i start n (at-place (begun call) m) m) (sym (add-zero (searchSteps bound m k + 1))) (waits-low taken)
+  put-waits (suc l) le free taken new = by (low (free 0 (omega arith)) .1)
     where
-      q : ℕ
-      q = path 0
+      by : Settles m i (path 0) o ⊎ Makes m call i (path 0) o
+          → Waiting i start (searchSteps bound m k + 1 + 5 * suc l) (at-place (begun call) m) (out l .memory)
+      by (inl s) = absurd (subst Plain (sym (answers h top5) ∙ new (λ e. omega arith)) (s .answer))
+      by (inr M) = waits-up l le taken (all-up M l (omega arith) (λ j jl. free j (omega arith)))
 
-      used : q ≤ m .counts .nodes
-      used = finds-at 0 (omega arith) .spot .used
+  -- ---- the whole put, where the locks that it needs are free
 
-      kept : x ≤ m .counts .nodes → lock (release (o .memory) q 0 .nodes) l x ≡ lock (m .nodes) l x
-      kept hx = by-eq x q
-          (λ ex. by-eq l 0
-          (λ el. rw (ex, el) (word-same (o .memory .nodes) q 10 0 (omega arith) (omega (arith, s .size, N .size, N .room, used)) ∙ sym (free 0 (omega arith))))
-          (λ nl. other (λ e. omega arith)))
-          (λ nx. other (λ e. absurd (nx e)))
-        where
-          other : (x ≡ q → 10 + l ≢ 10) → lock (release (o .memory) q 0 .nodes) l x ≡ lock (m .nodes) l x
-          other ne =
-              word-other (o .memory .nodes) q x 10 (10 + l) 0 (omega arith) (omega arith) ne ∙ s .locks l x l5
-              ∙ word-other (m .nodes) q x 10 (10 + l) (i + 1) (omega arith) (omega arith) ne
+  module _ (free : (l : ℕ) → l ≤ h → lock (m .nodes) l (path l) ≡ 0) where
+    pub put-ends : Ends (putH alone i bound m k (call .value) (call .timestamp) h)
+    unfolding putH
+    put-ends = by (low (free 0 (omega arith)) .1)
+      where
+        by : Settles m i (path 0) o ⊎ Makes m call i (path 0) o → Ends (out h)
+        by (inl s) = rw (settled-out s h top5) (settled-ends (free 0 (omega arith)) s)
+        by (inr M) = made-ends (all-up M h (omega arith) free)
 
-  made-locks : Up h → LocksKept (out h .memory)
-  made-locks U = rw (U .out-is) (λ l x l5. (
-    λ hx. U .risen .locks l x l5 hx,
-    λ lt le. rw (own (U .held .counts .nodes) (m .counts .nodes) (U .risen .nodes-is) x lt le) (U .risen .own-locks l l5),
-  ))
-    where
-      own : (a b : ℕ) → a ≡ b + 1 → (x : ℕ) → b < x → x ≤ a → x ≡ b + 1
-      own a b e x lt le = omega arith
+    -- ---- its locks are free again
 
-  pub put-locks : LocksKept (putH alone i bound m k (call .value) (call .timestamp) h .memory)
-  unfolding putH
-  put-locks = by (low .1)
-    where
-      by : Settles m i (path 0) o ⊎ Makes m call i (path 0) o → LocksKept (out h .memory)
-      by (inl s) = rw (settled-out s h top5) (settled-locks s)
-      by (inr M) = made-locks (all-up M h (omega arith))
+    abbrev LocksKept : Memory → Type 0
+    LocksKept M = (l x : ℕ) → l ≤ 5 → (x ≤ m .counts .nodes → lock (M .nodes) l x ≡ lock (m .nodes) l x)
+        × (m .counts .nodes < x → x ≤ M .counts .nodes → lock (M .nodes) l x ≡ 0)
+
+    settled-locks : Settles m i (path 0) o → LocksKept (release (o .memory) (path 0) 0)
+    settled-locks s l x l5 = (kept, λ lt le. absurd (omega (arith, s .same)))
+      where
+        q : ℕ
+        q = path 0
+
+        used : q ≤ m .counts .nodes
+        used = finds-at 0 (omega arith) .spot .used
+
+        kept : x ≤ m .counts .nodes → lock (release (o .memory) q 0 .nodes) l x ≡ lock (m .nodes) l x
+        kept hx = by-eq x q
+            (λ ex. by-eq l 0
+            (λ el. rw (ex, el) (word-same (o .memory .nodes) q 10 0 (omega arith) (omega (arith, s .size, N .size, N .room, used)) ∙ sym (free 0 (omega arith))))
+            (λ nl. other (λ e. omega arith)))
+            (λ nx. other (λ e. absurd (nx e)))
+          where
+            other : (x ≡ q → 10 + l ≢ 10) → lock (release (o .memory) q 0 .nodes) l x ≡ lock (m .nodes) l x
+            other ne =
+                word-other (o .memory .nodes) q x 10 (10 + l) 0 (omega arith) (omega arith) ne ∙ s .locks l x l5
+                ∙ word-other (m .nodes) q x 10 (10 + l) (i + 1) (omega arith) (omega arith) ne
+
+    made-locks : Up h → LocksKept (out h .memory)
+    made-locks U = rw (U .out-is) (λ l x l5. (
+      λ hx. U .risen .locks l x l5 hx,
+      λ lt le. rw (own (U .held .counts .nodes) (m .counts .nodes) (U .risen .nodes-is) x lt le) (U .risen .own-locks l l5),
+    ))
+      where
+        own : (a b : ℕ) → a ≡ b + 1 → (x : ℕ) → b < x → x ≤ a → x ≡ b + 1
+        own a b e x lt le = omega arith
+
+    pub put-locks : LocksKept (putH alone i bound m k (call .value) (call .timestamp) h .memory)
+    unfolding putH
+    put-locks = by (low (free 0 (omega arith)) .1)
+      where
+        by : Settles m i (path 0) o ⊎ Makes m call i (path 0) o → LocksKept (out h .memory)
+        by (inl s) = rw (settled-out s h top5) (settled-locks s)
+        by (inr M) = made-locks (all-up M h (omega arith) free)

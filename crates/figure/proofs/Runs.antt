@@ -84,6 +84,12 @@ pub record Ended (i start steps : ℕ) (x : Place) (left : Memory) (a : Answer) 
   pub run : Run i (start + 1) before x last
   pub ends : turnOf (i + 1) (start + steps) (last .process) (last .memory) ≡ moved left (End a v effect)
 
+-- so many steps lead to where every step waits
+pub record Waiting (i start steps : ℕ) (x : Place) (left : Memory) : Type 0 where
+  pub process : Process
+  pub run : Run i (start + 1) steps x (at-place process left)
+  pub waits : (tick : ℕ) → turnOf (i + 1) tick process left ≡ moved left Wait
+
 -- no step changes the call
 after-call : (tick : ℕ) (pr : Process) (v : Move) → Going v → processAfter tick pr v .call ≡ pr .call
 unfolding processAfter

@@ -1,16 +1,17 @@
 -- A call that is started and then turned alone does what the published procedures do: the statement. "Alone" means that no
 -- other call is made before it ends; other stations may stand anywhere in calls of theirs.
-use Prim.Native.Nat.{ℕ, zero, suc, _+_, _-_, _≤_, _<_}
+use Prim.Native.Nat.{ℕ, zero, suc, _+_, _*_, _-_, _≤_, _<_}
 use mathlib.Core.Bool.{true}
 use mathlib.Core.List.{List, [], _∷_, _++_}
+use mathlib.Core.Logic.{_≢_}
 use mathlib.Core.Path.{_≡_}
 use lib.ListN.{set}
 use Rattle.model.specs.Layout.{Memory, lock}
 use Rattle.model.specs.State.{idleProcess, memoryOf, lawfulKey}
 use Rattle.model.specs.Calls.{openOf, startPutOf, startGetOf, topOf, Store, stepOf, counted, statusOf}
 use Rattle.model.specs.History.{Action, withState, performAll, begin}
-use Rattle.figure.specs.Types.{Put, Get, Answer, Opening, Starting, Stepping, Status}
-use Rattle.figure.specs.Figure.{HMAX, head, findAll, get, alone, put}
+use Rattle.figure.specs.Types.{Put, Get, Answer, New, Opening, Starting, Stepping, Status}
+use Rattle.figure.specs.Figure.{HMAX, head, findAll, get, alone, put, leftBelow}
 use Rattle.figure.specs.Steps.{searchSteps, stepsOf}
 
 -- ---- steps of one process
@@ -137,3 +138,48 @@ abbrev pub PutUnlocks : Type 0
 PutUnlocks = (w : Store) → Reached w → Unlocked (memoryIn w)
     → (bound : ℕ) → w .state .counts .nodes < bound → (i k v t draw : ℕ) → lawfulKey k ≡ true
     → Unlocked (put alone i bound (memoryIn w) k v t draw .memory)
+
+-- ---- a put that meets a lock that is held
+
+-- n steps that all waited, the first with this tick
+unfoldable pub waits : (tick n : ℕ) → List Stepping
+waits tick zero = []
+waits tick (suc n) = Stepping.Waited tick ∷ waits (tick + 1) n
+
+-- the store n events later, and all else as it was
+abbrev pub waited : Store → (n : ℕ) → Store
+waited w n = record {
+  state = record {
+    opened = w .state .opened;
+    processes = w .state .processes;
+    limit = w .state .limit;
+    events = w .state .events + n;
+    lengths = w .state .lengths;
+    counts = w .state .counts;
+    process = w .state .process;
+  };
+  nodes = w .nodes;
+  versions = w .versions;
+  tally = w .tally;
+}
+
+-- n steps move on and leave this memory; after them every step waits, and changes only the event count
+pub record Waits (begun : Store) (i start n : ℕ) (left : Memory) : Type 0 where
+  pub comes : turned begun i n .outcomes ≡ moves (start + 1) n
+  pub leaves : memoryIn (turned begun i n .store) ≡ left
+  pub stays : (more : ℕ) → start + n + more ≤ begun .state .limit
+      → turned (turned begun i n .store) i more
+      ≡ record { outcomes = waits (start + n + 1) more; store = waited (turned begun i n .store) more }
+
+-- Of the locks that a put needs, that of level l is the first that is held; it comes there if l is 0 or it makes a node.
+abbrev pub PutWaits : Type 0
+PutWaits = (w : Store) → Reached w → (bound : ℕ) → w .state .counts .nodes < bound → (i k v t draw l start : ℕ)
+    → let begun = startPutOf (w .state) (w .nodes) (w .versions) i k v t draw in
+    let m = memoryIn w in
+    let h = topOf draw in
+    let n = searchSteps bound m k + 1 + 5 * l in
+    l ≤ h → ((j : ℕ) → j < l → lock (m .nodes) j (findAll bound m head k HMAX j .pred) ≡ 0)
+    → lock (m .nodes) l (findAll bound m head k HMAX l .pred) ≢ 0
+    → (l ≢ 0 → put alone i bound m k v t draw .answer ≡ New)
+    → begun .outcome ≡ Starting.Started start → start + n ≤ w .state .limit
+    → Waits (withState w (begun .state)) i start n (leftBelow alone i bound m k v t h l)

@@ -302,3 +302,9 @@ module _ (others : Memory → Memory) (i : ℕ) where
   -- There is no random source: the level is that of the call's draw.
   unfoldable pub put : (bound : ℕ) → Memory → (k v t draw : ℕ) → Inserted
   put bound m k v t draw = putH bound m k v t (topOf draw)
+
+  -- what putH has left of memory when it comes to the lock of level lvl: at the bottom nothing is written yet, above it the
+  -- levels below are done
+  unfoldable pub leftBelow : (bound : ℕ) → Memory → (k v t h lvl : ℕ) → Memory
+  leftBelow bound m k v t h zero = m
+  leftBelow bound m k v t h (suc l) = insertAll bound m (findAll bound m head k HMAX l .pred) k v t h l .memory
