@@ -14,3 +14,4 @@ pub mod Putting
 pub mod PutAlone
 pub mod Unlocked
 pub mod PutWaits
+pub mod OpensNew

@@ -20,7 +20,7 @@ sets-past [] l i j v h = refl
 sets-past (a ∷ vs) l i j v h =
     sets-past vs (set l i a) (suc i) j v (omega arith) ∙ ap (λ (z : List ℕ). sets z (suc i) vs) (set-comm l i j a v (omega arith))
 
-sets-set : (vs l : List ℕ) (i j v : ℕ) → j < length vs → set (sets l i vs) (i + j) v ≡ sets l i (set vs j v)
+pub sets-set : (vs l : List ℕ) (i j v : ℕ) → j < length vs → set (sets l i vs) (i + j) v ≡ sets l i (set vs j v)
 sets-set [] l i j v h = absurd (omega arith)
 sets-set (a ∷ vs) l i zero v h =
     ap (λ (n : ℕ). set (sets (set l i a) (suc i) vs) n v) (add-zero i)

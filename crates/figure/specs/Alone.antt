@@ -5,13 +5,13 @@ use mathlib.Core.Bool.{true}
 use mathlib.Core.List.{List, [], _∷_, _++_}
 use mathlib.Core.Logic.{_≢_}
 use mathlib.Core.Path.{_≡_}
-use lib.ListN.{set}
+use lib.ListN.{length, set}
 use Rattle.model.specs.Layout.{Memory, lock}
 use Rattle.model.specs.State.{idleProcess, memoryOf, lawfulKey}
 use Rattle.model.specs.Calls.{openOf, startPutOf, startGetOf, topOf, Store, stepOf, counted, statusOf}
 use Rattle.model.specs.History.{Action, withState, performAll, begin}
 use Rattle.figure.specs.Types.{Put, Get, Answer, New, Opening, Starting, Stepping, Status}
-use Rattle.figure.specs.Figure.{HMAX, head, findAll, get, alone, put, leftBelow}
+use Rattle.figure.specs.Figure.{HMAX, head, new, findAll, get, alone, put, leftBelow}
 use Rattle.figure.specs.Steps.{searchSteps, stepsOf}
 
 -- ---- steps of one process
@@ -183,3 +183,12 @@ PutWaits = (w : Store) → Reached w → (bound : ℕ) → w .state .counts .nod
     → (l ≢ 0 → put alone i bound m k v t draw .answer ≡ New)
     → begun .outcome ≡ Starting.Started start → start + n ≤ w .state .limit
     → Waits (withState w (begun .state)) i start n (leftBelow alone i bound m k v t h l)
+
+-- ---- new
+
+-- The tables that an accepted opening leaves are those of the figure's `new`: the left sentinel as document 01 lays it out, every
+-- link leading to the right one, and every lock made, whatever it held before.
+abbrev pub OpensNew : Type 0
+OpensNew = (nodes versions : List ℕ) (processes limit : ℕ) → openOf nodes versions processes limit .result .outcome ≡ Opening.Opened
+    → (bound : ℕ) → HMAX < bound → (unmade : ℕ)
+    → memoryIn (begin (openOf nodes versions processes limit) processes limit .store) ≡ new bound (length nodes) (length versions) unmade

@@ -54,7 +54,7 @@ newlock = 0
 unfoldable pub refNode : (nodes : List ℕ) → (n k val h : ℕ) → (locks next : List ℕ) → List ℕ
 refNode nodes n k val h locks next = sets nodes (nodeWords * n) (k ∷ val ∷ h ∷ 0 ∷ next ++ locks)
 
--- AllocN: every record of the node table has room for HMAX + 1 links and locks, and what it is not given is 0
+-- AllocN n value: fixed tables, so every record of the node table has room for HMAX + 1 links and locks
 abbrev pub AllocN : (n value : ℕ) → List ℕ
 AllocN n value = replicate n value
 
@@ -67,7 +67,7 @@ withNodes m nodes = record { nodes = nodes; versions = m .versions; counts = m .
 --   if lvl = HMAX + 1 then ()
 --   else locks + lvl ← newlock ();
 --        initLocks locks (lvl + 1)
--- `locks` are the left sentinel's. A bound above HMAX + 1 is enough: a greater one changes nothing (`locks-bound`).
+-- `locks` are the left sentinel's. A bound above HMAX is enough, and a greater one changes nothing (`opens-new`).
 unfoldable pub initLocks : (bound : ℕ) → (locks : List ℕ) → (lvl : ℕ) → List ℕ
 initLocks zero locks lvl = locks
 initLocks (suc bound) locks lvl =
@@ -80,11 +80,12 @@ initLocks (suc bound) locks lvl =
 --   let locks = AllocN (HMAX + 1) () in
 --   initLocks locks 0;
 --   ref (MIN, NULL, locks, next)
--- Fixed tables: they are lent, so many words long, and zeroed; the left sentinel is the first record of the node table.
-unfoldable pub new : (bound : ℕ) → (nodes versions : ℕ) → Memory
-new bound nodes versions =
+-- Fixed tables: they are lent, so many words long, and zeroed; the left sentinel is the first record of the node table. `()` is
+-- whatever a lock holds that is not yet made.
+unfoldable pub new : (bound : ℕ) → (nodes versions : ℕ) → (unmade : ℕ) → Memory
+new bound nodes versions unmade =
     let next = AllocN (HMAX + 1) tail in
-    let locks = AllocN (HMAX + 1) 0 in
+    let locks = AllocN (HMAX + 1) unmade in
     record {
       nodes = initLocks bound (refNode (replicate nodes 0) head MIN NULL HMAX locks next) 0;
       versions = replicate versions 0;
@@ -162,7 +163,8 @@ link m pred lvl n =
 --   let n = ref (k, val, locks, next) in
 --   link pred 0 n;
 --   n
--- Fixed tables: n and val are the next records of their tables.
+-- Fixed tables: n and val are the next records of their tables, and what they are not given is 0 (document 01: "its other links
+-- and its locks are 0").
 unfoldable pub create : Memory → (k v t h : ℕ) → Memory
 create m k v t h =
     let next = AllocN (HMAX + 1) 0 in
