@@ -15,3 +15,4 @@ pub mod PutAlone
 pub mod Unlocked
 pub mod PutWaits
 pub mod OpensNew
+pub mod Ledger

@@ -91,7 +91,7 @@ pub record Waiting (i start steps : ℕ) (x : Place) (left : Memory) : Type 0 wh
   pub waits : (tick : ℕ) → turnOf (i + 1) tick process left ≡ moved left Wait
 
 -- no step changes the call
-after-call : (tick : ℕ) (pr : Process) (v : Move) → Going v → processAfter tick pr v .call ≡ pr .call
+pub after-call : (tick : ℕ) (pr : Process) (v : Move) → Going v → processAfter tick pr v .call ≡ pr .call
 unfolding processAfter
 after-call tick pr Refuse g = absurd g
 after-call tick pr Wait g = absurd g
