@@ -16,3 +16,4 @@ pub mod Unlocked
 pub mod PutWaits
 pub mod OpensNew
 pub mod Ledger
+pub mod Implements

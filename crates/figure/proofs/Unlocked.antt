@@ -39,7 +39,7 @@ rest-unlocks w reached rest l x l5 hx = by (lock (w .nodes) l x) refl
     by zero e = e
     by (suc j) e = absurd (lives .live .core .locks j l x (omega arith) hx e .kind (idle j))
 
-key-range : (k : ℕ) → lawfulKey k ≡ true → (1 ≤ k) × (k < MAX)
+pub key-range : (k : ℕ) → lawfulKey k ≡ true → (1 ≤ k) × (k < MAX)
 key-range k e = let f = simp and-eq-true-iff at e in (leb-true 1 k (f .0), omega (arith, leb-true k (limits .key) (f .1)))
 
 pub unlocked-frees : UnlockedFrees

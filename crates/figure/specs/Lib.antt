@@ -2,3 +2,4 @@ pub mod Types
 pub mod Figure
 pub mod Steps
 pub mod Alone
+pub mod OneByOne
