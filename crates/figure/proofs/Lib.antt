@@ -17,3 +17,4 @@ pub mod PutWaits
 pub mod OpensNew
 pub mod Ledger
 pub mod Implements
+pub mod OneByOne

@@ -45,7 +45,7 @@ no-idle Idle ne = absurd (ne refl)
 no-idle Put ne = refl
 no-idle Get ne = refl
 
-not-le : (a b : ℕ) → b < a → leb a b ≡ false
+pub not-le : (a b : ℕ) → b < a → leb a b ≡ false
 not-le a b lt = go (leb a b) refl
   where
     go : (x : Bool) → leb a b ≡ x → leb a b ≡ false

@@ -25,19 +25,20 @@ shown-idle Idle pr e = refl
 shown-idle Put pr e = absurd (let z : _≡_ {A = ℕ} 0 1 = cc in omega arith)
 shown-idle Get pr e = absurd (let z : _≡_ {A = ℕ} 0 1 = cc in omega arith)
 
+-- no process has a call
+pub resting-idle : {w : Store} → Lives w → Resting w → (j : ℕ) → slot w j .call .kind ≡ Idle
+resting-idle {w} lives rest j = by-le (w .state .processes) j (lives .live .core .beyond j)
+    (λ lt. shown-idle (slot w j .call .kind) (slot w j) (sym (status-is (lives .live .core) j lt) ∙ rest j lt))
+
 pub rest-unlocks : RestUnlocks
 rest-unlocks w reached rest l x l5 hx = by (lock (w .nodes) l x) refl
   where
     lives : Lives w
     lives = reached-lives reached
 
-    idle : (j : ℕ) → slot w j .call .kind ≡ Idle
-    idle j = by-le (w .state .processes) j (lives .live .core .beyond j)
-        (λ lt. shown-idle (slot w j .call .kind) (slot w j) (sym (status-is (lives .live .core) j lt) ∙ rest j lt))
-
     by : (n : ℕ) → lock (w .nodes) l x ≡ n → lock (w .nodes) l x ≡ 0
     by zero e = e
-    by (suc j) e = absurd (lives .live .core .locks j l x (omega arith) hx e .kind (idle j))
+    by (suc j) e = absurd (lives .live .core .locks j l x (omega arith) hx e .kind (resting-idle lives rest j))
 
 pub key-range : (k : ℕ) → lawfulKey k ≡ true → (1 ≤ k) × (k < MAX)
 key-range k e = let f = simp and-eq-true-iff at e in (leb-true 1 k (f .0), omega (arith, leb-true k (limits .key) (f .1)))
