@@ -46,10 +46,7 @@ pub record Does (K W bound : ℕ) (m : Memory) (b : Map) (r : Request) : Type 0 
   pub replies : figureReply bound m r ≡ replyOf K W b (operationOf r)
   pub leaves : Ordered K W (figureMemory bound m r) (fedBy (operationOf r .kind) K W b (operationOf r))
 
-module _ {K W : ℕ} {m : Memory} {b : Map} (O : Ordered K W m b) (bound : ℕ) (enough : K < bound) where
-  room : m .counts .nodes < bound
-  room = omega (arith, O .nodes .room, O .K-is)
-
+module _ {K W : ℕ} {m : Memory} {b : Map} (O : Ordered K W m b) (bound : ℕ) (room : m .counts .nodes < bound) where
   gets : (i k : ℕ) → (1 ≤ k) × (k < MAX) → Does K W bound m b (getting i k)
   unfolding figureReply figureMemory replyBy fedBy
   gets i k range =
@@ -100,7 +97,7 @@ pub all-does : {K W : ℕ} (bound : ℕ) → K < bound → (rs : List Request) {
 unfolding figureAll ledgerAll
 all-does bound enough [] O lawful = refl
 all-does {K} {W} bound enough (r ∷ rs) {m} {b} O lawful =
-    let D = does O bound enough r (lawful .0) in
+    let D = does O bound (omega (arith, O .nodes .room, O .K-is)) r (lawful .0) in
     ap (λ (z : Reply). z ∷ figureAll bound (figureMemory bound m r) rs) (D .replies)
     ∙ ap (λ (zs : List Reply). replyOf K W b (operationOf r) ∷ zs) (all-does bound enough rs (D .leaves) (lawful .1))
 

@@ -18,3 +18,4 @@ pub mod OpensNew
 pub mod Ledger
 pub mod Implements
 pub mod OneByOne
+pub mod Counted

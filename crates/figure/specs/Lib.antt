@@ -3,3 +3,4 @@ pub mod Figure
 pub mod Steps
 pub mod Alone
 pub mod OneByOne
+pub mod Counted
