@@ -19,3 +19,4 @@ pub mod Ledger
 pub mod Implements
 pub mod OneByOne
 pub mod Counted
+pub mod Unseen

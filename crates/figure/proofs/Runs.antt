@@ -1,5 +1,5 @@
 -- Steps of one call alone, on its process and memory: how runs of steps are put together, and what a run keeps.
-use Prim.Native.Nat.{ℕ, zero, suc, _+_, _≤_, _<_}
+use Prim.Native.Nat.{ℕ, zero, suc, _+_, _-_, _≤_, _<_}
 use mathlib.Core.Bool.{Bool, _&&_}
 use mathlib.Core.List.{List}
 use mathlib.Core.Logic.{_≢_}
@@ -107,3 +107,45 @@ goes-call i tick (suc n) x y f =
 
 pub run-call : {i tick n : ℕ} {x y : Place} → Run i tick n x y → y .process .call ≡ x .process .call
 run-call {i} {tick} {n} {x} {y} r = goes-call i tick n x y (r .goes)
+
+-- ---- a call ends but once
+
+-- of two runs from one place the longer goes on from the end of the shorter
+goes-split : (i tick a b : ℕ) (x y z : Place) → Goes i tick a x y → Goes i tick (a + b) x z → Goes i (tick + a) b y z
+goes-split i tick zero b x y z f h = rw (add-zero tick) (subst (λ p. Goes i tick b p z) f (rw zero-add at h))
+goes-split i tick (suc a) b x y z f h =
+    subst (λ t. Goes i t b y z) (sym (shift-tick tick a))
+    (goes-split i (suc tick) a b (place-after i tick x) y z (f .1) (subst (λ n. Goes i tick n x z) (shift a b) h .1))
+  where
+    shift : (a b : ℕ) → suc a + b ≡ suc (a + b)
+    shift a b = omega arith
+
+    shift-tick : (t a : ℕ) → t + suc a ≡ suc t + a
+    shift-tick t a = omega arith
+
+abbrev End-is : Memory → Answer → Version → (m : Memory) → Answer → Version → Type 0
+End-is m a v m′ a′ v′ = (m ≡ m′) × (a ≡ a′) × (v ≡ v′)
+
+module _ {i start : ℕ} {x : Place} {n n′ : ℕ} {m m′ : Memory} {a a′ : Answer} {v v′ : Version} {e e′ : ℕ}
+    (E : Ended i start n x m a v e) (E′ : Ended i start n′ x m′ a′ v′ e′) where
+  ended-by : (d : ℕ) → Goes i (start + 1 + E .before) d (E .last) (E′ .last) → E .before + d ≡ E′ .before → End-is m a v m′ a′ v′
+  ended-by zero f q =
+      let same : moved m (End a v e) ≡ moved m′ (End a′ v′ e′) =
+      sym (E .ends) ∙ ap (λ (z : Place). stepped i (start + n) z) f
+      ∙ ap (λ k. stepped i (start + k) (E′ .last)) (omega (arith, E .steps-is, E′ .steps-is)) ∙ E′ .ends in
+      let t = told (ap (λ (r : Moved). r .move) same) in
+      (ap (λ (r : Moved). r .memory) same, t .0, t .1)
+    where
+      told : End a v e ≡ End a′ v′ e′ → (a ≡ a′) × (v ≡ v′)
+      told q = (cc, cc)
+  ended-by (suc d) f q = absurd (subst (λ (r : Moved). Going (r .move)) ends (f .0))
+    where
+      ends : stepped i (start + 1 + E .before) (E .last) ≡ moved m (End a v e)
+      ends = ap (λ k. stepped i k (E .last)) (omega (arith, E .steps-is)) ∙ E .ends
+
+  pub ended-same : E .before ≤ E′ .before → End-is m a v m′ a′ v′
+  ended-same le =
+      let d = E′ .before - E .before in
+      let q : E .before + d ≡ E′ .before = omega arith in
+      ended-by d (goes-split i (start + 1) (E .before) d x (E .last) (E′ .last) (E .run .goes)
+      (subst (λ k. Goes i (start + 1) k x (E′ .last)) (sym q) (E′ .run .goes))) q
