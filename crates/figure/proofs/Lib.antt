@@ -20,3 +20,4 @@ pub mod Implements
 pub mod OneByOne
 pub mod Counted
 pub mod Unseen
+pub mod Checks
