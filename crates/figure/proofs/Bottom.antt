@@ -1,26 +1,26 @@
 -- At the bottom level a put that is turned alone does what the figure's tryInsert does, up to its release.
-use Prim.Native.Nat.{ℕ, zero, suc, _+_, _≤_, _<_}
-use mathlib.Core.Bool.{Bool, true, false, not, _&&_}
+use Prim.Native.Nat.{ℕ, _+_, _≤_, _<_}
+use mathlib.Core.Bool.{Bool, true, false, not}
 use mathlib.Core.List.{List}
 use mathlib.Core.Logic.{_≢_, _⊎_, inl, inr}
 use mathlib.Core.Option.{Option, none, some}
-use mathlib.Core.Path.{_≡_, refl, sym, ap, _∙_, subst}
+use mathlib.Core.Path.{_≡_, refl, sym, ap, _∙_}
 use native.Mathlib.Omega.{arith}
-use lib.Dec.{T, eqb, leb, ltb, leb→le, nleb→lt, ltb→lt}
+use lib.Dec.{T, eqb, leb, ltb, nleb→lt, ltb→lt}
 use lib.ListN.{length, set}
 use Rattle.model.specs.Choice.{if_then_else_}
 use Rattle.model.specs.Layout.{Memory, nodeWords, topLevel, capacity, newest, next, lock, timestamp}
 use Rattle.model.specs.Map.{Map}
-use Rattle.model.specs.Phases.{Moved, moved, at, usedNode, usedVersion, maxNodes, maxVersions, ahead, walked, descend, walkBy, checkBy, committed, addVersion, updateNode, updateAt, updateOf, addNode, makeOf, phaseOf, turnOf}
+use Rattle.model.specs.Phases.{moved, usedNode, usedVersion, maxNodes, maxVersions, ahead, walked, descend, walkBy, checkBy, committed, addVersion, updateNode, updateAt, updateOf, addNode, makeOf, phaseOf, turnOf}
 use Rattle.model.specs.Calls.{processAfter}
 use Rattle.model.proofs.Tests.{if-yes, if-no, if-by, by-test, not-not}
 use Rattle.model.proofs.Words.{length-word, word-field}
 use Rattle.model.proofs.Invariant.{Ghost, Nodes, Book}
 use Rattle.model.proofs.Step.{place-in, within-T}
-use Rattle.figure.specs.Types.{Kind, Idle, Put, Phase, Walk, Seek, Lock, Check, Update, Make, Release, Answer, TooOld, VersionsFull, Added, KeysFull, New, Found, None, Call, Cursor, Process, Ahead, Equal, Past, Refuse, Note, Go, Commit}
-use Rattle.figure.specs.Figure.{MAX, keyOf, Pair, Inserted, link, create, createAndLink, update, Locked, release, acquire, alone, tryInsert}
+use Rattle.figure.specs.Types.{Idle, Put, Phase, Walk, Seek, Check, Update, Make, Release, Answer, TooOld, VersionsFull, Added, KeysFull, New, Found, None, Call, Cursor, Process, Ahead, Equal, Past, Refuse, Note}
+use Rattle.figure.specs.Figure.{MAX, keyOf, Pair, Inserted, createAndLink, update, Locked, release, acquire, alone, tryInsert}
 use Rattle.figure.proofs.Search.{key-same, Finds}
-use Rattle.figure.proofs.Runs.{Place, at-place, Run, run-one, run-on}
+use Rattle.figure.proofs.Runs.{at-place, Run, run-one, run-on}
 use Rattle.figure.proofs.Walking.{pose, before, ahead-equal, ahead-past, ahead-stop, walk-turn}
 use Rattle.figure.proofs.Writing.{make-is}
 use Rattle.figure.proofs.Locking.{Ready, finds-ready, work-turn, held-ready, to-check, check-turn, find-lock}

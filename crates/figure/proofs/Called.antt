@@ -1,26 +1,23 @@
 -- A call of a store of demand 3 that is started, and whose steps end it on process and memory, ends it in the store.
 use Prim.Native.Nat.{ℕ, zero, suc, _+_, _-_, _≤_, _<_}
-use mathlib.Core.Bool.{Bool, true, false, and-eq-true-iff}
-use mathlib.Core.List.{List, [], _∷_, _++_}
+use mathlib.Core.Bool.{and-eq-true-iff}
+use mathlib.Core.List.{[], _∷_, _++_}
 use mathlib.Core.Logic.{_≢_}
-use mathlib.Core.Path.{_≡_, refl, sym, ap, _∙_, subst}
-use native.Mathlib.Nat.{add-assoc}
-use native.Mathlib.Numerals.{add-one}
+use mathlib.Core.Path.{_≡_, refl, ap, _∙_, subst}
 use native.Mathlib.Omega.{arith}
 use borrow.Author.Tests.{leb-true, leb-false, not-false}
-use lib.Dec.{leb}
-use lib.ListN.{length, getD, set, length-set}
+use lib.ListN.{length, set, length-set}
 use lib.Seq.{getD-set-same, set-set}
 use Rattle.model.specs.Layout.{Memory, limits}
 use Rattle.model.specs.State.{idleProcess, noProcess, withEvent, lawfulKey}
 use Rattle.model.specs.Phases.{moved, turnOf}
-use Rattle.model.specs.Calls.{openOf, begun, startPermit, startBy, startPutOf, startGetOf, topOf, Store, Stepped, stepOf, counted}
-use Rattle.model.specs.History.{Action, startPut, startGet, History, withState, perform, performAll, begin}
+use Rattle.model.specs.Calls.{openOf, begun, startPermit, startBy, Store, Stepped, stepOf}
+use Rattle.model.specs.History.{Action, History, withState, perform, performAll, begin}
 use Rattle.model.proofs.Laws.{granted-iff}
 use Rattle.model.proofs.Live.{memory, slot, Live}
 use Rattle.model.proofs.Opened.{opened-live}
 use Rattle.model.proofs.Claimed.{performed-live}
-use Rattle.figure.specs.Types.{Kind, Answer, Call, Process, Version, Move, End, Permit, Granted, Denied, Refusal, Starting, StartResult, Stepping}
+use Rattle.figure.specs.Types.{Kind, Answer, Call, Version, End, Permit, Granted, Denied, Refusal, Starting, StartResult, Stepping}
 use Rattle.figure.specs.Alone.{Turned, turned, moves, Reached, rested}
 use Rattle.figure.proofs.Runs.{Place, at-place, stepped, Run, Ended, run-call}
 use Rattle.figure.proofs.Lifted.{later, place-in, step-ends, placed, Turns, lift}

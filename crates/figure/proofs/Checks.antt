@@ -1,12 +1,12 @@
 -- The procedures computed on small stores: beside the store's own steps, beside the plain ledger, and beside words that are written
 -- down here. Each way to get a procedure wrong that we know of changes one of these.
-use Prim.Native.Nat.{ℕ, zero, suc, _+_, _*_}
+use Prim.Native.Nat.{ℕ, _+_, _*_}
 use mathlib.Core.List.{List, [], _∷_, _++_, map}
 use mathlib.Core.Path.{_≡_, refl}
 use lib.Count.{trailingZeros}
 use lib.Dec.{eqb}
 use mathlib.Core.Bool.{Bool, true, false, _&&_}
-use lib.ListN.{length, replicate}
+use lib.ListN.{replicate}
 use Rattle.model.specs.Choice.{if_then_else_}
 use Rattle.model.specs.Layout as Layout
 use Rattle.model.specs.Layout.{Memory, nodeWords, versionWords}
@@ -19,7 +19,6 @@ use Rattle.model.specs.Calls as Calls
 use Rattle.model.specs.Calls.{openOf, topOf, Store}
 use Rattle.model.specs.History.{begin}
 use Rattle.model.specs.Linearizability as Linearizability
-use Rattle.figure.specs.Types.{Answer, TooOld, VersionsFull, Added, KeysFull, New, Found, None}
 use Rattle.figure.specs.Figure as Figure
 use Rattle.figure.specs.Figure.{new, alone, put}
 use Rattle.figure.specs.Steps as Steps

@@ -1,11 +1,11 @@
 -- One level up: a put that stands at its release with its node linked below does what the figure's insert does there, up to the
 -- next release. Said once for every level.
-use Prim.Native.Nat.{ℕ, zero, suc, _+_, _≤_, _<_}
-use mathlib.Core.Bool.{Bool, true, false, not, _&&_, _||_}
+use Prim.Native.Nat.{ℕ, suc, _+_, _≤_, _<_}
+use mathlib.Core.Bool.{Bool, true, false, not, _||_}
 use mathlib.Core.List.{List}
 use mathlib.Core.Logic.{_≢_}
 use mathlib.Core.Option.{some}
-use mathlib.Core.Path.{_≡_, refl, sym, ap, _∙_, subst}
+use mathlib.Core.Path.{_≡_, refl, sym, ap, _∙_}
 use native.Mathlib.Numerals.{add-one}
 use native.Mathlib.Omega.{arith}
 use lib.Dec.{T, eqb, leb, ltb, leb→le, ltb→lt}
@@ -13,20 +13,20 @@ use lib.ListN.{getD}
 use Rattle.model.specs.Choice.{if_then_else_}
 use Rattle.model.specs.Layout.{Memory, topLevel, next, lock, key}
 use Rattle.model.specs.Numbers.{placeOf, noVersion}
-use Rattle.model.specs.Phases.{Moved, moved, at, ended, usedNode, ahead, checkBy, addLink, linkOf, isNew, rise, released, freed, releaseOf, fromPut, noEffect, lawfulAt, phaseOf, turnOf}
+use Rattle.model.specs.Phases.{moved, at, ended, usedNode, ahead, checkBy, addLink, linkOf, isNew, rise, released, freed, releaseOf, fromPut, noEffect, lawfulAt, phaseOf, turnOf}
 use Rattle.model.specs.Calls.{processAfter}
 use Rattle.model.proofs.Tests.{if-yes, if-no, by-test, ne→neqb}
 use Rattle.model.proofs.Words.{word-node}
 use Rattle.model.proofs.Invariant.{Ghost, Nodes}
 use Rattle.model.proofs.Step.{within-T}
-use Rattle.figure.specs.Types.{Kind, Put, Phase, Seek, Lock, Check, Update, Make, Link, Release, Answer, New, Call, Cursor, Process, Ahead, Wait, Go}
-use Rattle.figure.specs.Figure.{MAX, keyOf, Pair, Inserted, link, Locked, release, acquire, alone, findLock, insert, insertAbove}
+use Rattle.figure.specs.Types.{Put, Phase, Seek, Lock, Check, Update, Make, Link, Release, New, Call, Process, Ahead, Wait, Go}
+use Rattle.figure.specs.Figure.{MAX, Pair, Inserted, link, Locked, release, acquire, alone, findLock, insert, insertAbove}
 use Rattle.figure.proofs.Search.{Finds}
 use Rattle.figure.proofs.Runs.{Place, at-place, Run, run-one, run-on, run-same}
 use Rattle.figure.proofs.Walking.{pose, turn-is, ahead-stop}
 use Rattle.figure.proofs.Writing.{link-is}
 use Rattle.figure.proofs.Locking.{key-kept, Ready, finds-ready, work-turn, held-ready, seek-on, lock-waits, to-check, check-turn, find-lock}
-use Rattle.figure.proofs.Rising.{Risen, link-cursor, linked-risen}
+use Rattle.figure.proofs.Rising.{Risen, linked-risen}
 
 or-right : (a c : Bool) → T c → T (a || c)
 or-right true c t = tt

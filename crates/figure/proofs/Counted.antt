@@ -1,26 +1,22 @@
 -- Each hop passes a node with a smaller key, and no node twice.
-use Prim.Native.Nat.{ℕ, zero, suc, _+_, _*_, _%_, _≤_, _<_}
-use mathlib.Core.Bool.{Bool, true}
-use mathlib.Core.List.{List, []}
+use Prim.Native.Nat.{ℕ, suc, _+_, _*_, _%_, _≤_, _<_}
+use mathlib.Core.Bool.{true}
+use mathlib.Core.List.{[]}
 use mathlib.Core.Path.{_≡_, refl, sym, ap, _∙_, subst}
 use native.Mathlib.Omega.{arith}
 use lib.Dec.{T, eqb, leb, leb→le}
-use lib.ListN.{length}
 use Rattle.model.specs.Layout.{Memory, limits, nodeWords, versionWords, capacity}
-use Rattle.model.specs.Choice.{if_then_else_}
 use Rattle.model.specs.Map.{held, versionsOf, PutResult, putBy, putIn, Reply, getBy, getFrom}
 use Rattle.model.specs.State.{within, lawfulLength, lawfulNodes, lawfulVersions, lawfulKey}
-use Rattle.model.specs.Calls.{openOf, topOf, Store}
-use Rattle.model.specs.History.{begin}
+use Rattle.model.specs.Calls.{topOf}
 use Rattle.model.specs.Linearizability.{replyBy}
 use Rattle.model.proofs.Opened.{opened-live}
 use Rattle.model.proofs.Tests.{if-by, if-no, and→}
-use Rattle.model.proofs.Laws.{top-at-most}
 use Rattle.model.proofs.Invariant.{Ghost, Nodes}
 use Rattle.figure.specs.Types.{Answer, TooOld, VersionsFull, Added, KeysFull, New, Found, None, Version}
 use Rattle.figure.specs.Figure.{HMAX, MAX, head, keyOf, findAll, get, alone, put}
 use Rattle.figure.specs.Steps.{hopsDown, searchSteps, stepsAfter, stepsOf, smaller}
-use Rattle.figure.specs.Alone.{Reached, memoryIn}
+use Rattle.figure.specs.Alone.{memoryIn}
 use Rattle.figure.specs.OneByOne.{putting, getting, figureReply}
 use Rattle.figure.specs.Counted.{Few, FewSteps, Empty, EmptySteps}
 use Rattle.figure.proofs.Search.{at-head, down-few, left-smaller, left-most}

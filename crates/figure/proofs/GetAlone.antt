@@ -1,17 +1,15 @@
 -- From every store that a list of demand 3 leaves, a get that is turned alone does what the figure's get does.
-use Prim.Native.Nat.{ℕ, suc, _+_, _≤_, _<_}
-use mathlib.Core.Path.{_≡_, refl, sym, subst}
+use Prim.Native.Nat.{ℕ, _+_}
+use mathlib.Core.Path.{refl, subst}
 use native.Mathlib.Omega.{arith}
-use Rattle.model.specs.Layout.{limits}
-use Rattle.model.specs.State.{withEvent}
-use Rattle.model.specs.Calls.{begun, startPermit, startGetOf, Store}
+use Rattle.model.specs.Calls.{startPermit, startGetOf, Store}
 use Rattle.model.specs.History.{startGet, withState, perform}
-use Rattle.figure.specs.Types.{Get, Call, Starting, State}
+use Rattle.figure.specs.Types.{Get, Call, State}
 use Rattle.figure.specs.Figure.{get}
 use Rattle.figure.specs.Steps.{stepsOf}
-use Rattle.figure.specs.Alone.{turned, Reached, memoryIn, GetAlone}
+use Rattle.figure.specs.Alone.{memoryIn, GetAlone}
 use Rattle.figure.proofs.Getting.{get-ends}
-use Rattle.figure.proofs.Called.{Accepted, accepted, Finishes, finishes, Lives, reached-lives, acted-lives}
+use Rattle.figure.proofs.Called.{accepted, finishes, Lives, reached-lives, acted-lives}
 
 abbrev get-call : Store → (k : ℕ) → Call
 get-call w k = record { kind = Get; key = k; value = 0; timestamp = 0; top = 0; start = w .state .events + 1 }

@@ -1,27 +1,25 @@
 -- A get that is turned alone ends with what the figure's get answers, and writes nothing.
-use Prim.Native.Nat.{ℕ, zero, suc, _+_, _≤_, _<_}
-use mathlib.Core.Bool.{Bool, not, _&&_}
-use mathlib.Core.List.{List}
+use Prim.Native.Nat.{ℕ, _+_, _≤_, _<_}
+use mathlib.Core.Bool.{not}
 use mathlib.Core.Logic.{_≢_}
-use mathlib.Core.Path.{_≡_, refl, sym, ap, _∙_, subst}
+use mathlib.Core.Path.{_≡_, sym, ap, _∙_}
 use native.Mathlib.Omega.{arith}
 use lib.Dec.{T, eqb, leb}
 use lib.ListN.{set, replicate}
-use Rattle.model.specs.Choice.{if_then_else_}
 use Rattle.model.specs.Layout.{Memory, newest, next, versionAt}
 use Rattle.model.specs.Map.{Map, Reply}
 use Rattle.model.specs.Numbers.{noVersion}
 use Rattle.model.specs.Phases.{moved, usedVersion, ahead, walked, descend, walkBy, readOf, lawfulAt, phaseOf, turnOf}
 use Rattle.model.specs.Calls.{begun, processAfter}
-use Rattle.model.proofs.Tests.{if-yes, if-no, by-test, →and, ne→neqb}
+use Rattle.model.proofs.Tests.{if-yes, if-no, by-test, ne→neqb}
 use Rattle.model.proofs.Invariant.{Ghost, Nodes, Book}
 use Rattle.model.proofs.Step.{place-in, within-T}
-use Rattle.figure.specs.Types.{Kind, Idle, Get, Walk, Read, Answer, Found, None, Call, Process, Ahead, Equal, Past, Note, End}
+use Rattle.figure.specs.Types.{Idle, Get, Walk, Read, Found, None, Call, Process, Ahead, Equal, Past, End}
 use Rattle.figure.specs.Figure.{HMAX, MAX, head, keyOf, Pair, findAll, get}
 use Rattle.figure.specs.Steps.{hopsDown, searchSteps, stepsAfter, stepsOf}
 use Rattle.figure.proofs.Search.{key-same, Finds, at-head, all-finds, link-used}
-use Rattle.figure.proofs.Runs.{Place, at-place, Run, run-one, run-on, Ended}
-use Rattle.figure.proofs.Walking.{ahead-equal, ahead-past, before, turn-is, walk-turn, walks, Walked, walk-down}
+use Rattle.figure.proofs.Runs.{at-place, Run, run-one, run-on, Ended}
+use Rattle.figure.proofs.Walking.{ahead-equal, ahead-past, before, turn-is, walk-turn, Walked, walk-down}
 
 get≢idle : Get ≢ Idle
 get≢idle e = let z : _≡_ {A = ℕ} 0 1 = cc in omega arith

@@ -1,6 +1,5 @@
 -- Figure 1 implements the plain ledger: each procedure answers as the ledger does, and leaves memory that holds what the ledger holds.
 use Prim.Native.Nat.{ℕ, zero, suc, _+_, _≤_, _<_}
-use mathlib.Core.Bool.{true}
 use mathlib.Core.List.{List, [], _∷_}
 use mathlib.Core.Path.{_≡_, refl, sym, ap, _∙_, subst}
 use native.Mathlib.Omega.{arith}
@@ -19,15 +18,14 @@ use Rattle.model.proofs.Effects.{Took, played}
 use Rattle.model.proofs.Live.{Live}
 use Rattle.model.proofs.Stepped.{put-reply, put-fed}
 use Rattle.model.proofs.Opened.{opened-live}
-use Rattle.figure.specs.Types.{Put, Get, Idle, Call, Opening}
-use Rattle.figure.specs.Figure.{HMAX, MAX, head, new, get, alone, put}
+use Rattle.figure.specs.Types.{Put, Get, Call, Opening}
+use Rattle.figure.specs.Figure.{HMAX, MAX, head, get, alone, put}
 use Rattle.figure.specs.Steps.{searchSteps, stepsOf}
 use Rattle.figure.specs.Alone.{memoryIn, Free, Unlocked}
 use Rattle.figure.specs.OneByOne.{Request, putting, getting, operationOf, figureReply, figureMemory, figureAll, ledgerAll, Lawful, FigureImplements}
 use Rattle.figure.proofs.Search.{at-head, all-finds}
 use Rattle.figure.proofs.Getting.{get-ends}
 use Rattle.figure.proofs.Putting.{put-ends, put-locks}
-use Rattle.figure.proofs.Ledger.{Sized, Played}
 use Rattle.figure.proofs.Ledger as L
 use Rattle.figure.proofs.Unlocked.{key-range}
 use Rattle.figure.proofs.OpensNew.{opens-new}

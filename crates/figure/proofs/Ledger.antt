@@ -1,22 +1,20 @@
 -- The figure's get and put answer what the plain ledger answers, and put leaves memory that holds what the ledger's put leaves: by
 -- the steps that they are, each of which is good.
 use Prim.Native.Nat.{ℕ, zero, suc, _+_, _≤_, _<_}
-use mathlib.Core.List.{List}
 use mathlib.Core.Logic.{_≢_, _⊎_, inl, inr}
 use mathlib.Core.Path.{_≡_, refl, sym, ap, _∙_, subst}
 use native.Mathlib.Omega.{arith}
-use lib.ListN.{length, replicate}
-use Rattle.model.specs.Layout.{Memory, nodeWords, versionWords, capacity}
-use Rattle.model.specs.Map.{Map, PutResult, putIn, answered, Reply, getFrom}
-use Rattle.model.specs.Phases.{Moved, moved, ownVersion, maxNodes, maxVersions, turnOf}
+use lib.ListN.{length}
+use Rattle.model.specs.Layout.{Memory}
+use Rattle.model.specs.Map.{Map, PutResult, putIn, answered, getFrom}
+use Rattle.model.specs.Phases.{Moved, ownVersion, maxNodes, maxVersions}
 use Rattle.model.specs.Calls.{begun, processAfter}
-use Rattle.model.proofs.Tests.{by-eq}
 use Rattle.model.proofs.Words.{filled}
 use Rattle.model.proofs.Invariant.{Ghost, Nodes, Book, At, PlacedOf, Fits}
 use Rattle.model.proofs.Step.{Does, Good, Result}
 use Rattle.model.proofs.Turn.{turn-good}
 use Rattle.figure.specs.Types.{Kind, Idle, Put, Get, Walk, Answer, Call, Effect, Process, Version, Move, Refuse, Wait, Go, Note, Commit, End}
-use Rattle.figure.proofs.Runs.{Going, Place, at-place, stepped, place-after, Goes, Run, after-call, run-call, Ended}
+use Rattle.figure.proofs.Runs.{Going, Place, at-place, stepped, place-after, Goes, after-call, run-call, Ended}
 
 -- a process that has a call, and memory in order that holds the map b
 pub record Held (i : ℕ) (x : Place) (b : Map) : Type 0 where

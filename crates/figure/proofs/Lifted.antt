@@ -2,27 +2,26 @@
 -- that process, memory and the count of events.
 use Prim.Native.Nat.{ℕ, zero, suc, _+_, _-_, _≤_, _<_}
 use mathlib.Core.Bool.{Bool, true, false, not, _&&_}
-use mathlib.Core.List.{List, [], _∷_, _++_}
+use mathlib.Core.List.{[], _∷_}
 use mathlib.Core.Logic.{_≢_}
 use mathlib.Core.Path.{_≡_, refl, sym, ap, _∙_, subst}
 use native.Mathlib.Nat.{add-zero, add-assoc}
 use native.Mathlib.Numerals.{add-one}
 use native.Mathlib.Omega.{arith}
 use lib.Dec.{T, eqb, leb, leb→le}
-use lib.ListN.{length, getD, set}
+use lib.ListN.{length, set}
 use lib.Seq.{getD-set-same, set-getD, set-set}
-use Rattle.model.specs.Choice.{if_then_else_}
 use Rattle.model.specs.Layout.{Memory, limits}
-use Rattle.model.specs.State.{idleProcess, noProcess, processAt, memoryOf, withEvent, isIdle}
+use Rattle.model.specs.State.{noProcess, isIdle}
 use Rattle.model.specs.Phases.{Moved, moved, lawfulAt, lawfulProcess, turnOf}
-use Rattle.model.specs.Calls.{Store, Stepped, stepPermit, processAfter, outcomeOf, counted, tallyAfter, stepBy, stepOf}
+use Rattle.model.specs.Calls.{Store, Stepped, stepPermit, processAfter, outcomeOf, tallyAfter, stepBy, stepOf}
 use Rattle.model.specs.History.{History, sawStep}
 use Rattle.model.proofs.Tests.{is-true, if-no, eq→eqb}
 use Rattle.model.proofs.Live.{memory, slot, Live, core-lawful}
 use Rattle.model.proofs.Stepped.{step-live}
-use Rattle.figure.specs.Types.{Kind, Idle, Put, Get, Answer, Process, Version, Move, Refuse, Wait, Go, Note, Commit, End, Permit, Granted, Stepping}
+use Rattle.figure.specs.Types.{Kind, Idle, Put, Get, Answer, Process, Version, Move, Refuse, Wait, Go, Note, Commit, End, Granted, Stepping}
 use Rattle.figure.specs.Alone.{Turned, turned, moves, rested}
-use Rattle.figure.proofs.Runs.{Going, Place, at-place, stepped, place-after, Goes, Run}
+use Rattle.figure.proofs.Runs.{Going, Place, at-place, stepped, place-after, Goes}
 
 -- ---- an accepted step
 

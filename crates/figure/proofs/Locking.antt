@@ -1,20 +1,19 @@
 -- Where the predecessor is found already and its lock is free, seek, lock and check do what the figure's findLock does: one round.
 use Prim.Native.Nat.{ℕ, zero, suc, _+_, _≤_, _<_}
-use mathlib.Core.Bool.{Bool, not, _||_}
+use mathlib.Core.Bool.{_||_}
 use mathlib.Core.List.{List}
 use mathlib.Core.Logic.{_≢_}
 use mathlib.Core.Path.{_≡_, refl, sym, ap, _∙_, subst}
 use native.Mathlib.Omega.{arith}
 use lib.Dec.{T, eqb, leb}
-use Rattle.model.specs.Choice.{if_then_else_}
 use Rattle.model.specs.Layout.{Memory, key, next, lock}
-use Rattle.model.specs.Phases.{Moved, moved, at, ahead, seekBy, seekOf, lockOf, checkBy, checkOf, noEffect, fromPut, lawfulAt, phaseOf, turnOf}
+use Rattle.model.specs.Phases.{moved, at, ahead, seekBy, seekOf, lockOf, checkBy, checkOf, noEffect, fromPut, lawfulAt, phaseOf, turnOf}
 use Rattle.model.specs.Calls.{processAfter}
 use Rattle.model.proofs.Tests.{if-yes, if-no, by-eq, eq→eqb, ne→neqb}
 use Rattle.model.proofs.Words.{word-field}
 use Rattle.model.proofs.Invariant.{Ghost, Nodes}
-use Rattle.figure.specs.Types.{Kind, Put, Phase, Walk, Read, Seek, Lock, Check, Update, Make, Link, Release, Answer, Call, Process, Ahead, Wait, Go}
-use Rattle.figure.specs.Figure.{MAX, tail, keyOf, Pair, find, Locked, acquire, alone, findLock}
+use Rattle.figure.specs.Types.{Put, Phase, Walk, Read, Seek, Lock, Check, Update, Make, Link, Release, Answer, Call, Process, Ahead, Wait, Go}
+use Rattle.figure.specs.Figure.{MAX, tail, keyOf, Pair, acquire, alone, findLock}
 use Rattle.figure.proofs.Search.{Finds, find-stop, link-used, level5}
 use Rattle.figure.proofs.Runs.{at-place, Run, run-one, run-on}
 use Rattle.figure.proofs.Walking.{pose, turn-is, ahead-stop}

@@ -1,28 +1,27 @@
 -- Calls that are turned one after another, each to its end, are the published procedures folded over the list.
 use Prim.Native.Nat.{ℕ, zero, suc, _+_, _-_, _≤_, _<_}
-use mathlib.Core.Bool.{Bool, true, false, and-eq-true-iff}
+use mathlib.Core.Bool.{true}
 use mathlib.Core.List.{List, [], _∷_, _++_}
 use mathlib.Core.Path.{_≡_, refl, sym, ap, _∙_, subst}
 use native.Mathlib.Omega.{arith}
-use lib.Dec.{leb}
-use lib.ListN.{length, getD, set}
+use lib.ListN.{length}
 use lib.Seq.{getD-set-same, getD-set-other}
-use Rattle.model.specs.Layout.{Memory, nodeWords, versionWords, capacity, limits}
+use Rattle.model.specs.Layout.{Memory, nodeWords, versionWords, capacity}
 use Rattle.model.specs.Map.{Reply}
 use Rattle.model.specs.State.{idleProcess, noProcess, lawfulKey, isIdle}
 use Rattle.model.specs.Phases.{maxNodes}
-use Rattle.model.specs.Calls.{openOf, startPermit, startBy, startPutOf, startGetOf, topOf, Store, stepOf, standing, statusOf}
+use Rattle.model.specs.Calls.{openOf, startPermit, startBy, startPutOf, startGetOf, topOf, Store, stepOf, standing}
 use Rattle.model.specs.History.{Action, startPut, startGet, step, look, Invoked, emptyHistory, Run, perform, performAll, withState, begin}
 use Rattle.model.specs.Linearizability.{All}
 use Rattle.model.proofs.Tests.{by-eq}
 use Rattle.model.proofs.Laws.{top-at-most}
 use Rattle.model.proofs.Opened.{opened-live}
 use Rattle.model.proofs.Live.{slot, Live, core-lawful, status-is}
-use Rattle.figure.specs.Types.{Kind, Idle, Put, Get, Answer, Process, Finish, Opening, Starting, Stepping, Status, Granted}
+use Rattle.figure.specs.Types.{Idle, Answer, Process, Finish, Starting, Stepping, Granted}
 use Rattle.figure.specs.Figure.{get, alone, put}
-use Rattle.figure.specs.Steps.{stepsOf, searchSteps}
-use Rattle.figure.specs.Alone.{Turned, turned, moves, Reached, memoryIn, rested, Unlocked, Resting}
-use Rattle.figure.specs.OneByOne.{Request, putting, getting, processOf, operationOf, figureReply, figureMemory, figureAll, figureLeft, figureSteps, figureEvents, startOf, storeDoes, told, storeAll, storeLeft, Lawful, StoreFolds, StoreImplements}
+use Rattle.figure.specs.Steps.{stepsOf}
+use Rattle.figure.specs.Alone.{Turned, turned, moves, Reached, memoryIn, rested, Resting}
+use Rattle.figure.specs.OneByOne.{Request, putting, getting, processOf, figureReply, figureMemory, figureAll, figureLeft, figureSteps, figureEvents, storeDoes, told, storeAll, storeLeft, Lawful, StoreFolds, StoreImplements}
 use Rattle.figure.proofs.Lifted.{not-le}
 use Rattle.figure.proofs.Called.{Lives, reached-lives}
 use Rattle.figure.proofs.GetAlone.{get-alone}

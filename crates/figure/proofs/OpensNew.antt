@@ -1,16 +1,16 @@
 -- What an accepted opening leaves is what the figure's new leaves.
-use Prim.Native.Nat.{ℕ, zero, suc, _+_, _*_, _≤_, _<_}
+use Prim.Native.Nat.{ℕ, zero, suc, _≤_, _<_}
 use mathlib.Core.List.{List, [], _∷_}
 use mathlib.Core.Path.{_≡_, refl, sym, ap, _∙_}
 use native.Mathlib.Omega.{arith}
-use lib.ListN.{length, getD, set, replicate, length-replicate}
+use lib.ListN.{length, getD, set, replicate}
 use lib.Seq.{sets, set-getD, getD-set-other}
-use Rattle.model.specs.Layout.{Memory, withWord, freshNodes, nodeRecord}
+use Rattle.model.specs.Layout.{withWord, freshNodes, nodeRecord}
 use Rattle.model.specs.Calls.{openPermit, openBy, openOf}
 use Rattle.model.specs.History.{begin}
 use Rattle.model.proofs.Words.{filled}
 use Rattle.figure.specs.Types.{Permit, Granted, Denied, Refusal, Opening}
-use Rattle.figure.specs.Figure.{HMAX, MIN, NULL, tail, AllocN, refNode, initLocks, new}
+use Rattle.figure.specs.Figure.{HMAX, AllocN, refNode, initLocks, new}
 use Rattle.figure.specs.Alone.{memoryIn, OpensNew}
 use Rattle.figure.proofs.Writing.{sets-set}
 

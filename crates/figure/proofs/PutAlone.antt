@@ -1,18 +1,18 @@
 -- From every store that a list of demand 3 leaves, a put that is turned alone where its locks are free does what the figure's put
 -- does.
-use Prim.Native.Nat.{ℕ, suc, _+_, _≤_, _<_}
-use mathlib.Core.Path.{_≡_, refl, sym, subst}
+use Prim.Native.Nat.{ℕ, _+_}
+use mathlib.Core.Path.{refl, subst}
 use native.Mathlib.Omega.{arith}
 use Rattle.model.specs.Phases.{ownVersion}
-use Rattle.model.specs.Calls.{begun, startPermit, startPutOf, topOf, Store}
+use Rattle.model.specs.Calls.{startPermit, startPutOf, topOf, Store}
 use Rattle.model.specs.History.{startPut, withState, perform}
 use Rattle.model.proofs.Laws.{top-at-most}
 use Rattle.figure.specs.Types.{Put, Call, State}
 use Rattle.figure.specs.Figure.{alone, put}
 use Rattle.figure.specs.Steps.{searchSteps, stepsOf}
-use Rattle.figure.specs.Alone.{turned, Reached, memoryIn, PutAlone}
+use Rattle.figure.specs.Alone.{memoryIn, PutAlone}
 use Rattle.figure.proofs.Putting.{put-ends}
-use Rattle.figure.proofs.Called.{Accepted, accepted, finishes, Lives, reached-lives, acted-lives}
+use Rattle.figure.proofs.Called.{accepted, finishes, Lives, reached-lives, acted-lives}
 
 abbrev put-call : Store → (k v t draw : ℕ) → Call
 put-call w k v t draw = record { kind = Put; key = k; value = v; timestamp = t; top = topOf draw; start = w .state .events + 1 }

@@ -1,10 +1,9 @@
 -- A put that comes to a lock that is held waits there: each of its steps changes only the event count.
 use Prim.Native.Nat.{ℕ, zero, suc, _+_, _*_, _≤_, _<_}
-use mathlib.Core.List.{List, [], _∷_}
+use mathlib.Core.List.{_∷_}
 use mathlib.Core.Path.{_≡_, refl, sym, ap, _∙_, subst}
 use native.Mathlib.Nat.{add-zero, add-assoc}
 use native.Mathlib.Omega.{arith}
-use lib.ListN.{set}
 use lib.Seq.{set-getD}
 use Rattle.model.specs.Layout.{Memory}
 use Rattle.model.specs.State.{noProcess, withEvent}
@@ -12,16 +11,16 @@ use Rattle.model.specs.Phases.{moved}
 use Rattle.model.specs.Calls.{begun, startPermit, startPutOf, topOf, Store, Stepped, processAfter, outcomeOf, tallyAfter, stepBy, stepOf}
 use Rattle.model.specs.History.{History, startPut, withState, perform, sawStep}
 use Rattle.model.proofs.Laws.{top-at-most}
-use Rattle.model.proofs.Live.{memory, slot, Live}
+use Rattle.model.proofs.Live.{memory, Live}
 use Rattle.model.proofs.Stepped.{step-live}
-use Rattle.figure.specs.Types.{Put, Call, Process, State, Wait, Stepping}
+use Rattle.figure.specs.Types.{Put, Call, State, Wait, Stepping}
 use Rattle.figure.specs.Figure.{alone, put, leftBelow}
 use Rattle.figure.specs.Steps.{searchSteps}
-use Rattle.figure.specs.Alone.{Turned, turned, moves, memoryIn, waits, waited, Waits, PutWaits}
+use Rattle.figure.specs.Alone.{Turned, turned, memoryIn, waits, waited, Waits, PutWaits}
 use Rattle.figure.proofs.Runs.{Place, at-place, stepped, Waiting}
 use Rattle.figure.proofs.Putting.{put-waits}
-use Rattle.figure.proofs.Lifted.{later, place-in, step-is, placed, Turns, lift}
-use Rattle.figure.proofs.Called.{Accepted, accepted, Lives, reached-lives, acted-lives, here}
+use Rattle.figure.proofs.Lifted.{later, place-in, step-is, placed, lift}
+use Rattle.figure.proofs.Called.{accepted, Lives, reached-lives, acted-lives, here}
 
 wait-step : {K W : ℕ} {w : Store} {h : History} → Live K W w h → (i : ℕ) → i < w .state .processes → w .state .events < w .state .limit
     → stepped i (w .state .events + 1) (place-in w i) ≡ moved (memory w) Wait

@@ -1,29 +1,27 @@
 -- A put that is turned alone, where the locks that it needs are free, leaves the memory and gives the answer of the figure's putH.
 use Prim.Native.Nat.{ℕ, zero, suc, _+_, _*_, _≤_, _<_}
-use mathlib.Core.Bool.{Bool, true, false, not}
 use mathlib.Core.List.{List}
 use mathlib.Core.Logic.{_≢_, _⊎_, inl, inr}
 use mathlib.Core.Option.{Option, none, some}
 use mathlib.Core.Path.{_≡_, refl, sym, ap, _∙_, subst}
 use native.Mathlib.Nat.{add-zero}
 use native.Mathlib.Omega.{arith}
-use lib.Dec.{T, leb, ltb, le→leb}
-use lib.ListN.{length, getD, set, replicate}
+use lib.Dec.{leb, ltb, le→leb}
+use lib.ListN.{getD, set, replicate}
 use lib.Seq.{getD-set-other}
-use Rattle.model.specs.Choice.{if_then_else_}
 use Rattle.model.specs.Layout.{Memory, topLevel, lock}
 use Rattle.model.specs.Map.{Map}
-use Rattle.model.specs.Numbers.{placeOf, noVersion}
-use Rattle.model.specs.Phases.{moved, ownVersion, ended, isNew, rise, released, freed, releaseOf, fromPut, lawfulAt, phaseOf, turnOf}
+use Rattle.model.specs.Numbers.{placeOf}
+use Rattle.model.specs.Phases.{moved, ownVersion, isNew, rise, released, freed, releaseOf, fromPut, lawfulAt, phaseOf, turnOf}
 use Rattle.model.specs.Calls.{begun}
 use Rattle.model.proofs.Tests.{if-yes, if-no, by-eq}
 use Rattle.model.proofs.Words.{word-same, word-other}
 use Rattle.model.proofs.Invariant.{Ghost, Nodes, Book}
-use Rattle.figure.specs.Types.{Kind, Idle, Put, Lock, Release, Answer, TooOld, VersionsFull, Added, KeysFull, New, Found, None, Call, Process, End}
-use Rattle.figure.specs.Figure.{HMAX, MAX, head, Pair, find, findAll, Inserted, release, alone, tryInsert, insertAbove, insertAll, putH, leftBelow}
+use Rattle.figure.specs.Types.{Put, Lock, Release, Answer, TooOld, VersionsFull, Added, KeysFull, New, Found, None, Call, End}
+use Rattle.figure.specs.Figure.{HMAX, MAX, head, Pair, findAll, Inserted, release, alone, insertAbove, insertAll, putH, leftBelow}
 use Rattle.figure.specs.Steps.{hopsDown, searchSteps, stepsAfter, stepsOf}
 use Rattle.figure.proofs.Search.{Finds, at-head, all-finds, all-next}
-use Rattle.figure.proofs.Runs.{Place, at-place, Run, run-on, run-same, Ended, Waiting}
+use Rattle.figure.proofs.Runs.{at-place, Run, run-on, run-same, Ended, Waiting}
 use Rattle.figure.proofs.Walking.{pose, turn-is, Walked, walk-down}
 use Rattle.figure.proofs.Bottom.{put-busy, made-of, Plain, done, closed, try-is, Settles, Makes, walk-on, bottom}
 use Rattle.figure.proofs.Locking.{finds-ready, seek-on, lock-waits}

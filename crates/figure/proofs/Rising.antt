@@ -1,16 +1,16 @@
 -- What a put that makes a node leaves of every word that matters to the levels it has not come to: the node stands in its record,
 -- and links above its level and all locks of other nodes are as they were.
-use Prim.Native.Nat.{ℕ, zero, suc, _+_, _*_, _≤_, _<_}
+use Prim.Native.Nat.{ℕ, suc, _+_, _*_, _≤_, _<_}
 use mathlib.Core.List.{List}
 use mathlib.Core.Logic.{_≢_}
-use mathlib.Core.Path.{_≡_, refl, sym, ap, _∙_, subst}
+use mathlib.Core.Path.{_≡_, refl, sym, _∙_}
 use native.Mathlib.Omega.{arith}
 use lib.ListN.{length, getD}
 use Rattle.model.specs.Layout.{Memory, nodeWords, word, withWord, key, next, lock, withNode, nodeRecord}
 use Rattle.model.specs.Phases.{maxNodes, addNode, addLink}
 use Rattle.model.proofs.Tests.{by-eq}
-use Rattle.model.proofs.Words.{length-word, word-same, word-field, word-node, word-other, length-node, node-in, node-out, node-locks}
-use Rattle.figure.specs.Types.{Call, Cursor, Phase, Make, Link}
+use Rattle.model.proofs.Words.{length-word, word-same, word-field, word-node, length-node, node-in, node-out, node-locks}
+use Rattle.figure.specs.Types.{Call, Cursor, Make, Link}
 use Rattle.figure.specs.Figure.{release, acquire, alone}
 
 -- memory M is m with one node more, of key k, linked at the levels up to l

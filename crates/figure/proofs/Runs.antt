@@ -1,17 +1,11 @@
 -- Steps of one call alone, on its process and memory: how runs of steps are put together, and what a run keeps.
-use Prim.Native.Nat.{ℕ, zero, suc, _+_, _-_, _≤_, _<_}
-use mathlib.Core.Bool.{Bool, _&&_}
-use mathlib.Core.List.{List}
-use mathlib.Core.Logic.{_≢_}
+use Prim.Native.Nat.{ℕ, zero, suc, _+_, _-_, _≤_}
 use mathlib.Core.Path.{_≡_, refl, sym, ap, _∙_, subst}
 use native.Mathlib.Nat.{add-zero, zero-add}
 use native.Mathlib.Omega.{arith}
-use lib.Dec.{T, leb, le→leb}
-use Rattle.model.specs.Choice.{if_then_else_}
-use Rattle.model.specs.Layout.{Memory, topLevel}
-use Rattle.model.specs.Phases.{Moved, moved, lawfulAt, lawfulProcess, phaseOf, turnOf}
+use Rattle.model.specs.Layout.{Memory}
+use Rattle.model.specs.Phases.{Moved, moved, turnOf}
 use Rattle.model.specs.Calls.{processAfter}
-use Rattle.model.proofs.Tests.{if-yes, →and}
 use Rattle.figure.specs.Types.{Answer, Process, Version, Move, Refuse, Wait, Go, Note, Commit, End}
 
 -- a move after which the call goes on

@@ -3,14 +3,13 @@
 use Prim.Native.Nat.{ℕ, zero, suc, _+_, _≤_, _<_}
 use mathlib.Core.Bool.{Bool, not, _&&_}
 use mathlib.Core.Logic.{_≢_}
-use mathlib.Core.Path.{_≡_, refl, sym, ap, _∙_, subst}
+use mathlib.Core.Path.{_≡_, refl, sym, ap, _∙_}
 use native.Mathlib.Omega.{arith}
-use lib.Dec.{T, eqb, leb, ltb, leb→le, nleb→lt, ltb→lt, lt→ltb, le→leb}
-use Rattle.model.specs.Choice.{if_then_else_}
+use lib.Dec.{T, eqb, leb, ltb, leb→le, nleb→lt, ltb→lt, lt→ltb}
 use Rattle.model.specs.Layout.{Memory, key, next}
-use Rattle.model.proofs.Tests.{if-by, if-eq, if-yes, if-no, by-eq, by-test, and→, →and, ne→neqb, eq→eqb, T-absurd}
+use Rattle.model.proofs.Tests.{if-eq, if-yes, if-no, by-eq, by-test, and→, →and, ne→neqb, eq→eqb, T-absurd}
 use Rattle.model.proofs.Counting.{count, count-less, count-mono, count-most}
-use Rattle.model.proofs.Invariant.{Ghost, In, Nodes, At}
+use Rattle.model.proofs.Invariant.{Ghost, Nodes, At}
 use Rattle.figure.specs.Figure.{HMAX, MAX, head, tail, keyOf, Pair, find, findAll}
 use Rattle.figure.specs.Steps.{hops, hopsDown, smaller}
 

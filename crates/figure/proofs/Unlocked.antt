@@ -1,19 +1,18 @@
 -- Where no call runs no lock is held; then the locks are free that any put needs, and it frees them again.
-use Prim.Native.Nat.{ℕ, zero, suc, _+_, _≤_, _<_}
-use mathlib.Core.Bool.{Bool, true, and-eq-true-iff}
+use Prim.Native.Nat.{ℕ, zero, suc, _≤_, _<_}
+use mathlib.Core.Bool.{true, and-eq-true-iff}
 use mathlib.Core.Path.{_≡_, refl, sym, _∙_}
 use native.Mathlib.Omega.{arith}
 use borrow.Author.Tests.{leb-true}
-use lib.Dec.{leb}
-use Rattle.model.specs.Layout.{Memory, limits, lock}
+use Rattle.model.specs.Layout.{limits, lock}
 use Rattle.model.specs.State.{lawfulKey}
-use Rattle.model.specs.Calls.{Store, standing, statusOf, topOf}
+use Rattle.model.specs.Calls.{Store, standing, topOf}
 use Rattle.model.proofs.Tests.{by-le}
 use Rattle.model.proofs.Laws.{top-at-most}
 use Rattle.model.proofs.Live.{slot, status-is}
 use Rattle.figure.specs.Types.{Kind, Idle, Put, Get, Call, Process, Status}
-use Rattle.figure.specs.Figure.{HMAX, MAX, head, alone, put}
-use Rattle.figure.specs.Alone.{Reached, memoryIn, Free, Unlocked, Resting, RestUnlocks, UnlockedFrees, PutUnlocks}
+use Rattle.figure.specs.Figure.{HMAX, MAX, head, put}
+use Rattle.figure.specs.Alone.{memoryIn, Resting, RestUnlocks, UnlockedFrees, PutUnlocks}
 use Rattle.figure.proofs.Search.{at-head, all-finds}
 use Rattle.figure.proofs.Putting.{put-locks}
 use Rattle.figure.proofs.Called.{Lives, reached-lives}

@@ -1,9 +1,9 @@
 -- The bounds of the figure's recursions never show: a call's steps know of none, and end but once.
-use Prim.Native.Nat.{ℕ, suc, _+_, _≤_, _<_}
+use Prim.Native.Nat.{ℕ, _≤_, _<_}
 use mathlib.Core.Path.{_≡_, refl, sym}
 use native.Mathlib.Omega.{arith}
 use Rattle.model.specs.Layout.{Memory}
-use Rattle.model.specs.Map.{Map, Reply}
+use Rattle.model.specs.Map.{Map}
 use Rattle.model.specs.Calls.{topOf}
 use Rattle.model.proofs.Tests.{by-le}
 use Rattle.model.proofs.Laws.{top-at-most}
@@ -11,7 +11,7 @@ use Rattle.model.proofs.Invariant.{Ghost, Nodes, Book}
 use Rattle.figure.specs.Types.{Put, Get, Call}
 use Rattle.figure.specs.Figure.{HMAX, MAX, head, get, alone, put}
 use Rattle.figure.specs.Alone.{memoryIn, Free, Unlocked}
-use Rattle.figure.specs.Counted.{Unseen, BoundUnseen}
+use Rattle.figure.specs.Counted.{BoundUnseen}
 use Rattle.figure.proofs.Search.{at-head, all-finds}
 use Rattle.figure.proofs.Runs.{ended-same}
 use Rattle.figure.proofs.Getting.{get-ends}

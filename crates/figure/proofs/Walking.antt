@@ -1,24 +1,23 @@
 -- A walk that is turned alone finds what the figure's find and findAll find: a step for each hop, and one for the end of each
 -- level.
 use Prim.Native.Nat.{ℕ, zero, suc, _+_, _-_, _≤_, _<_}
-use mathlib.Core.Bool.{Bool, true, false, not, _&&_}
+use mathlib.Core.Bool.{not, _&&_}
 use mathlib.Core.List.{List}
 use mathlib.Core.Logic.{_≢_}
 use mathlib.Core.Path.{_≡_, refl, sym, ap, _∙_, subst}
 use native.Mathlib.Omega.{arith}
-use lib.Dec.{T, eqb, leb, ltb, le→leb, lt→ltb, leb→le, nltb→le}
+use lib.Dec.{T, eqb, leb, ltb, le→leb, lt→ltb}
 use lib.ListN.{length, getD, set, length-set}
 use lib.Seq.{getD-set-same, getD-set-other}
-use Rattle.model.specs.Choice.{if_then_else_}
 use Rattle.model.specs.Layout.{Memory, topLevel, key, next}
-use Rattle.model.specs.Phases.{Moved, moved, at, ahead, walked, descend, walkBy, walkOf, fromPut, lawfulAt, lawfulProcess, phaseOf, turnOf}
+use Rattle.model.specs.Phases.{moved, at, ahead, descend, walkBy, walkOf, lawfulAt, lawfulProcess, phaseOf, turnOf}
 use Rattle.model.specs.Calls.{processAfter}
 use Rattle.model.proofs.Tests.{if-yes, if-no, by-eq, by-test, →and, eq→eqb, ne→neqb}
 use Rattle.model.proofs.Invariant.{Ghost, Nodes, At}
-use Rattle.figure.specs.Types.{Kind, Idle, Put, Get, Phase, Walk, Answer, None, Call, Cursor, Effect, Process, Ahead, Unused, Less, Equal, Past, Move, Go, Note}
-use Rattle.figure.specs.Figure.{HMAX, MAX, head, tail, keyOf, Pair, find, findAll}
+use Rattle.figure.specs.Types.{Kind, Idle, Put, Get, Phase, Walk, Answer, None, Call, Process, Ahead, Less, Equal, Past, Note}
+use Rattle.figure.specs.Figure.{MAX, keyOf, Pair, find, findAll}
 use Rattle.figure.specs.Steps.{hops, hopsDown}
-use Rattle.figure.proofs.Search.{key-below, key-from, key-same, key-other, Finds, left, left-most, link-used, level5, lower, Hop, along, finds, all-here, all-down}
+use Rattle.figure.proofs.Search.{key-below, key-from, key-same, key-other, left, left-most, link-used, level5, lower, along, finds, all-here, all-down}
 use Rattle.figure.proofs.Runs.{Place, at-place, Run, run-none, run-one, run-on, run-same}
 
 -- ---- where a link leads, by the figure's tests

@@ -5,7 +5,7 @@ use mathlib.Core.List.{List, [], _∷_}
 use mathlib.Core.Path.{_≡_, refl, sym, ap, _∙_}
 use native.Mathlib.Nat.{add-zero}
 use native.Mathlib.Omega.{arith}
-use lib.ListN.{length, getD, set}
+use lib.ListN.{length, set}
 use lib.Seq.{sets, set-set, set-comm, set-getD}
 use Rattle.model.specs.Layout.{Memory, nodeWords, word, withWord, next, lock, withNext, withLock, withNode, withVersion, nodeRecord}
 use Rattle.model.specs.Phases.{ownVersion, addNode, addLink}

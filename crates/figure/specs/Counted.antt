@@ -1,6 +1,6 @@
 -- What follows from the exact numbers of steps: a bound by the nodes with a smaller key, document 01's starred counts, and that the
 -- bounds of the figure's recursions never show.
-use Prim.Native.Nat.{ℕ, suc, _+_, _*_, _≤_, _<_}
+use Prim.Native.Nat.{ℕ, _+_, _*_, _≤_, _<_}
 use mathlib.Core.Bool.{true}
 use mathlib.Core.List.{List}
 use mathlib.Core.Path.{_≡_}

@@ -5,12 +5,12 @@
 -- Added to the figure, each said where it enters: the fixed tables and their "full" answers, the bound of a recursion, whose a
 -- lock is, and what others do while `acquire` waits.
 use Prim.Native.Nat.{ℕ, zero, suc, _+_, _*_}
-use mathlib.Core.List.{List, [], _∷_, _++_}
+use mathlib.Core.List.{List, _∷_, _++_}
 use mathlib.Core.Option.{Option, none, some}
 use lib.Dec.{eqb, ltb, leb}
 use lib.ListN.{replicate}
 use lib.Seq.{sets}
-use Rattle.figure.specs.Types.{Answer, TooOld, VersionsFull, Added, KeysFull, New, Found, None, Version}
+use Rattle.figure.specs.Types.{Answer, TooOld, VersionsFull, Added, KeysFull, New, Found, None}
 use Rattle.model.specs.Choice.{if_then_else_}
 use Rattle.model.specs.Layout.{limits, nodeWords, topLevel, Memory, key, newest, next, timestamp, versionAt, withNewest, withNext, withLock, withVersion}
 use Rattle.model.specs.Numbers.{noVersion}

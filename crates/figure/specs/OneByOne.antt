@@ -12,7 +12,7 @@ use Rattle.model.specs.Phases.{maxNodes}
 use Rattle.model.specs.Calls.{openOf, startPutOf, startGetOf, topOf, Store}
 use Rattle.model.specs.History.{Operation, putOperation, getOperation, withState, begin}
 use Rattle.model.specs.Linearizability.{fedBy, replyOf, All}
-use Rattle.figure.specs.Types.{Finish, Opening, StartResult, Stepping}
+use Rattle.figure.specs.Types.{Opening, StartResult, Stepping}
 use Rattle.figure.specs.Figure.{HMAX, new, get, alone, put}
 use Rattle.figure.specs.Steps.{stepsOf}
 use Rattle.figure.specs.Alone.{Turned, turned, Reached, memoryIn, Resting}
