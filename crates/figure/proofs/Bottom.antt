@@ -17,11 +17,11 @@ use Rattle.model.proofs.Tests.{if-yes, if-no, if-by, by-test, not-not}
 use Rattle.model.proofs.Words.{length-word, word-field}
 use Rattle.model.proofs.Invariant.{Ghost, Nodes, Book}
 use Rattle.model.proofs.Step.{place-in, within-T}
-use Rattle.figure.specs.Types.{Idle, Put, Phase, Walk, Seek, Check, Update, Make, Release, Answer, TooOld, VersionsFull, Added, KeysFull, New, Found, None, Call, Cursor, Process, Ahead, Equal, Past, Refuse, Note}
-use Rattle.figure.specs.Figure.{MAX, keyOf, Pair, Inserted, createAndLink, update, Locked, release, acquire, alone, tryInsert}
+use Rattle.figure.specs.Types.{Put, Phase, Walk, Seek, Check, Update, Make, Release, Answer, TooOld, VersionsFull, Added, KeysFull, New, Found, None, Call, Cursor, Process, Ahead, Equal, Past, Refuse, Note}
+use Rattle.figure.specs.Figure.{keyOf, Pair, Inserted, createAndLink, update, Locked, release, acquire, alone, tryInsert}
 use Rattle.figure.proofs.Search.{key-same, Finds}
 use Rattle.figure.proofs.Runs.{at-place, Run, run-one, run-on}
-use Rattle.figure.proofs.Walking.{pose, before, ahead-equal, ahead-past, ahead-stop, walk-turn}
+use Rattle.figure.proofs.Walking.{Asked, put≢idle, pose, before, ahead-equal, ahead-past, ahead-stop, walk-turn}
 use Rattle.figure.proofs.Writing.{make-is}
 use Rattle.figure.proofs.Locking.{Ready, finds-ready, work-turn, held-ready, to-check, check-turn, find-lock}
 
@@ -70,11 +70,8 @@ pub record Makes (m : Memory) (call : Call) (i q : ℕ) (o : Inserted) : Type 0 
   pub memory : o .memory ≡ addNode call (make-cursor q) (acquire alone i m q 0)
   pub room : m .counts .nodes < maxNodes m
 
-pub put-busy : (call : Call) → call .kind ≡ Put → call .kind ≢ Idle
-put-busy call is e = let z : _≡_ {A = ℕ} 0 1 = cc in omega arith
-
-module _ (m : Memory) (g : Ghost) (b : Map) (N : Nodes m g) (B : Book m b) (call : Call) (is-put : call .kind ≡ Put)
-    (k-max : call .key < MAX) (top5 : call .top ≤ 5) (i : ℕ) {r : Pair} (f : Finds m g (call .key) 0 r) (preds : List ℕ) where
+module _ {m : Memory} {g : Ghost} {b : Map} (N : Nodes m g) (B : Book m b) {call : Call} (P : Asked Put call) (i : ℕ) {r : Pair}
+    (f : Finds m g (call .key) 0 r) (preds : List ℕ) where
   abbrev k : ℕ
   k = call .key
 
@@ -82,7 +79,7 @@ module _ (m : Memory) (g : Ghost) (b : Map) (N : Nodes m g) (B : Book m b) (call
   q = r .pred
 
   R : Ready m k 0 q
-  R = finds-ready m g N k k-max f
+  R = finds-ready N (P .key-high) f
 
   abbrev preds₀ : List ℕ
   preds₀ = set preds 0 q
@@ -101,25 +98,25 @@ module _ (m : Memory) (g : Ghost) (b : Map) (N : Nodes m g) (B : Book m b) (call
   walk-on tick =
       let c = before call Walk 0 q preds .cursor in
       let down : (found : ℕ) → moved m (walked (call .kind) call c tick found) ≡ moved m (Note (here Seek .cursor)) =
-      λ found. ap (λ kind. moved m (walked kind call c tick found)) is-put in
-      run-one (walk-turn m g N call (put-busy call is-put) k-max i tick 0 q preds (f .spot)
-      ∙ ahead-stop m k k-max 0 q (R .linked) (λ x. moved m (walkBy call c tick x) ≡ moved m (Note (here Seek .cursor))) (R .stop)
+      λ found. ap (λ kind. moved m (walked kind call c tick found)) (P .kind-is) in
+      run-one (walk-turn N P put≢idle i tick 0 q preds (f .spot)
+      ∙ ahead-stop m k (P .key-high) 0 q (R .linked) (λ x. moved m (walkBy call c tick x) ≡ moved m (Note (here Seek .cursor))) (R .stop)
       (down (next (m .nodes) 0 q)) (down 0)) tt
 
   to-here : (tick : ℕ) → lock (m .nodes) 0 q ≡ 0 → Run i tick 3 (at-place (before call Walk 0 q preds) m) (at-place (here Check) m₁)
-  to-here tick free = run-on (walk-on tick) (to-check call is-put i 0 None 0 tt k-max m 0 q preds₀ R (tick + 1) free)
+  to-here tick free = run-on (walk-on tick) (to-check P i 0 None 0 tt R preds₀ (tick + 1) free)
 
   R₁ : Ready m₁ k 0 q
-  R₁ = held-ready call is-put i 0 None 0 tt k-max m 0 q preds₀ R
+  R₁ = held-ready P i 0 None 0 tt R preds₀
 
   second-look : (tick : ℕ) (x : Ahead) → ahead m₁ 0 q k ≡ x → turnOf (i + 1) tick (here Check) m₁ ≡ checkBy (here Check .cursor) m₁ x
-  second-look = check-turn call is-put i 0 None 0 tt k-max m 0 q preds₀ R
+  second-look = check-turn P i 0 None 0 tt R preds₀
 
   -- ---- the figure's outcome
 
   pub try-is : (bound : ℕ) → 1 ≤ bound → tryInsert alone i bound m q k (call .value) (call .timestamp) (call .top) ≡ closed q (done m call i q)
   unfolding tryInsert done
-  try-is bound pos = ap after (find-lock call is-put i 0 None 0 tt k-max m 0 q preds₀ R bound pos)
+  try-is bound pos = ap after (find-lock P i 0 None 0 tt R preds₀ bound pos)
     where
       after : Locked → Inserted
       after r = let o = if eqb k (keyOf (r .memory) (r .succ)) then update (r .memory) (r .succ) (call .value) (call .timestamp)
@@ -172,7 +169,7 @@ module _ (m : Memory) (g : Ghost) (b : Map) (N : Nodes m g) (B : Book m b) (call
       let p = place-in m g b N B y (omega arith) used-y in
       let x = newest (m₁ .nodes) y in
       let e : x ≡ newest (m .nodes) y = word-field (m .nodes) q y 10 1 (i + 1) (omega arith) (omega arith) (omega arith) in
-      work-turn call is-put i 0 None 0 tt m₁ Update 0 q preds₀ tt (omega arith) (R .used) tick
+      work-turn P i 0 None 0 tt m₁ Update 0 q preds₀ tt (omega arith) (R .used) tick
       ∙ if-no (not (usedNode m₁ y)) _ _ (not-not (usedNode m₁ y) (within-T {low = 1} {high = m .counts .nodes} {n = y} (omega arith) used-y))
       ∙ if-no (not (usedVersion m₁ x)) _ _ (not-not (usedVersion m₁ x) (within-T {low = 1} {high = m .counts .versions} {n = x} (omega arith) (omega arith)))
       ∙ sym updates
@@ -197,12 +194,12 @@ module _ (m : Memory) (g : Ghost) (b : Map) (N : Nodes m g) (B : Book m b) (call
   make-turn : (tick : ℕ) → turnOf (i + 1) tick (here Make) m₁ ≡ moved (c .memory) (committed (here Make .cursor) (made-of (c .node)) (c .answer))
   unfolding phaseOf makeOf
   make-turn tick =
-      work-turn call is-put i 0 None 0 tt m₁ Make 0 q preds₀ tt (omega arith) (R .used) tick
+      work-turn P i 0 None 0 tt m₁ Make 0 q preds₀ tt (omega arith) (R .used) tick
       ∙ by (leb (maxNodes m₁) (m .counts .nodes)) (leb (maxVersions m₁) (m .counts .versions)) (ltb topLevel (call .top)) low
       ∙ ap (λ (o : Inserted). moved (o .memory) (committed (here Make .cursor) (made-of (o .node)) (o .answer))) (sym create-is)
     where
       low : T (not (ltb topLevel (call .top)))
-      low = by-test (ltb topLevel (call .top)) (λ t. absurd (omega (arith, ltb→lt topLevel (call .top) t))) (λ t. t)
+      low = by-test (ltb topLevel (call .top)) (λ t. absurd (omega (arith, ltb→lt topLevel (call .top) t, P .top-high))) (λ t. t)
 
       by : (keys versions high : Bool) → T (not high)
           → (if keys then moved m₁ (committed (here Make .cursor) 0 KeysFull)
@@ -241,15 +238,15 @@ module _ (m : Memory) (g : Ghost) (b : Map) (N : Nodes m g) (B : Book m b) (call
     by-update : (tick : ℕ) → T (eqb k (keyOf m₁ y)) → Bottomed tick u
     unfolding checkBy processAfter
     by-update tick t = (
-      run-on (run-on (to-here tick free) (run-one (second-look (tick + 3) (Equal y) (ahead-equal m₁ k k-max 0 q (R₁ .linked) t)) tt))
-          (run-one (update-turn (tick + 4) (key-same m₁ k k-max y t .0)) tt),
+      run-on (run-on (to-here tick free) (run-one (second-look (tick + 3) (Equal y) (ahead-equal m₁ k (P .key-high) 0 q (R₁ .linked) t)) tt))
+          (run-one (update-turn (tick + 4) (key-same m₁ k (P .key-high) y t .0)) tt),
       inl update-settles,
     )
 
     by-make : (tick : ℕ) → T (not (eqb k (keyOf m₁ y))) → Bottomed tick c
     unfolding checkBy processAfter
     by-make tick t = (
-      run-on (run-on (to-here tick free) (run-one (second-look (tick + 3) Past (ahead-past m₁ k k-max 0 q (R₁ .linked) (R₁ .stop) t)) tt))
+      run-on (run-on (to-here tick free) (run-one (second-look (tick + 3) Past (ahead-past m₁ k (P .key-high) 0 q (R₁ .linked) (R₁ .stop) t)) tt))
           (run-one (make-turn (tick + 4)) tt),
       make-sorts,
     )

@@ -18,6 +18,7 @@ use Rattle.model.proofs.Live.{memory, slot, Live}
 use Rattle.model.proofs.Opened.{opened-live}
 use Rattle.model.proofs.Claimed.{performed-live}
 use Rattle.figure.specs.Types.{Kind, Answer, Call, Version, End, Permit, Granted, Denied, Refusal, Starting, StartResult, Stepping}
+use Rattle.figure.specs.Figure.{MAX}
 use Rattle.figure.specs.Alone.{Turned, turned, moves, Reached, rested}
 use Rattle.figure.proofs.Runs.{Place, at-place, stepped, Run, Ended, run-call}
 use Rattle.figure.proofs.Lifted.{later, place-in, step-ends, placed, Turns, lift}
@@ -35,8 +36,7 @@ turned-more w i (suc n) =
 -- what an accepted start was given, and the state that it left
 pub record Accepted (w : Store) (i : ℕ) (call : Call) (start : ℕ) (begins : StartResult) : Type 0 where
   pub below : i < w .state .processes
-  pub key-low : 1 ≤ call .key
-  pub key-high : call .key ≤ limits .key
+  pub range : (1 ≤ call .key) × (call .key < MAX)
   pub start-is : start ≡ w .state .events + 1
   pub state-is : begins .state ≡ withEvent (w .state) i (w .state .counts) (begun call)
 
@@ -52,8 +52,7 @@ accepted w i start call Granted e o =
     let key = simp and-eq-true-iff at (not-false (lawfulKey (call .key)) (f .1 .1 .0)) in
     record {
       below = leb-false (w .state .processes) i (f .1 .0);
-      key-low = leb-true 1 (call .key) (key .0);
-      key-high = leb-true (call .key) (limits .key) (key .1);
+      range = (leb-true 1 (call .key) (key .0), omega (arith, leb-true (call .key) (limits .key) (key .1)));
       start-is = cc;
       state-is = refl;
     }

@@ -16,7 +16,6 @@ use Rattle.model.proofs.Invariant.{Ghost, Nodes}
 use Rattle.figure.specs.Types.{Answer, TooOld, VersionsFull, Added, KeysFull, New, Found, None, Version}
 use Rattle.figure.specs.Figure.{HMAX, MAX, head, keyOf, findAll, get, alone, put}
 use Rattle.figure.specs.Steps.{hopsDown, searchSteps, stepsAfter, stepsOf, smaller}
-use Rattle.figure.specs.Alone.{memoryIn}
 use Rattle.figure.specs.OneByOne.{putting, getting, figureReply}
 use Rattle.figure.specs.Counted.{Few, FewSteps, Empty, EmptySteps}
 use Rattle.figure.proofs.Search.{at-head, down-few, left-smaller, left-most}
@@ -41,10 +40,10 @@ unfolding get stepsAfter
 get-after bound m k = if-by (λ (r : Reply). stepsAfter (r .answer) 0 ≤ 1) (eqb k (keyOf m (findAll bound m head k HMAX 0 .succ)))
     (λ t. omega arith) (λ t. omega arith)
 
-module _ (m : Memory) (g : Ghost) (N : Nodes m g) (k : ℕ) (low : 1 ≤ k) (k-max : k < MAX) (bound : ℕ) (enough : m .counts .nodes < bound) where
+module _ {m : Memory} {g : Ghost} (N : Nodes m g) (k : ℕ) (low : 1 ≤ k) (k-max : k < MAX) (bound : ℕ) (enough : m .counts .nodes < bound) where
   search-few : searchSteps bound m k ≤ smaller m k + 6
   unfolding searchSteps
-  search-few = omega (arith, down-few m g N k k-max bound (omega arith) HMAX head (at-head m g N k k-max low), left-smaller m g N k k-max)
+  search-few = omega (arith, down-few N k-max bound (omega arith) HMAX head (at-head N k-max low), left-smaller N k-max)
 
   few : Few bound m k
   unfolding stepsOf
@@ -58,7 +57,7 @@ pub few-steps : FewSteps
 few-steps w reached bound enough k lawful =
     let l = reached-lives reached .live in
     let r = key-range k lawful in
-    few (memoryIn w) (l .g) (l .core .nodes) k (r .0) (r .1) bound enough
+    few (l .core .nodes) k (r .0) (r .1) bound enough
 
 -- ---- an empty store
 
@@ -98,8 +97,8 @@ module _ {K W : ℕ} {m : Memory} (O : Ordered K W m []) (hK : 1 ≤ K) (hW : 1 
       omega (
         arith,
         no-nodes,
-        down-few m g (O .nodes) k (r .1) bound (omega (arith, no-nodes)) HMAX head (at-head m g (O .nodes) k (r .1) (r .0)),
-        left-most m g (O .nodes) k (r .1) head,
+        down-few (O .nodes) (r .1) bound (omega (arith, no-nodes)) HMAX head (at-head (O .nodes) (r .1) (r .0)),
+        left-most m k head,
       )
 
   gets-none : get bound m k .answer ≡ None

@@ -1,8 +1,8 @@
 -- A get that is turned alone ends with what the figure's get answers, and writes nothing.
-use Prim.Native.Nat.{ℕ, _+_, _≤_, _<_}
+use Prim.Native.Nat.{ℕ, _+_, _≤_}
 use mathlib.Core.Bool.{not}
 use mathlib.Core.Logic.{_≢_}
-use mathlib.Core.Path.{_≡_, sym, ap, _∙_}
+use mathlib.Core.Path.{_≡_, ap, _∙_}
 use native.Mathlib.Omega.{arith}
 use lib.Dec.{T, eqb, leb}
 use lib.ListN.{set, replicate}
@@ -14,23 +14,17 @@ use Rattle.model.specs.Calls.{begun, processAfter}
 use Rattle.model.proofs.Tests.{if-yes, if-no, by-test, ne→neqb}
 use Rattle.model.proofs.Invariant.{Ghost, Nodes, Book}
 use Rattle.model.proofs.Step.{place-in, within-T}
-use Rattle.figure.specs.Types.{Idle, Get, Walk, Read, Found, None, Call, Process, Ahead, Equal, Past, End}
-use Rattle.figure.specs.Figure.{HMAX, MAX, head, keyOf, Pair, findAll, get}
+use Rattle.figure.specs.Types.{Get, Walk, Read, Found, None, Call, Process, Ahead, Equal, Past, End}
+use Rattle.figure.specs.Figure.{HMAX, head, keyOf, Pair, findAll, get}
 use Rattle.figure.specs.Steps.{hopsDown, searchSteps, stepsAfter, stepsOf}
 use Rattle.figure.proofs.Search.{key-same, Finds, at-head, all-finds, link-used}
 use Rattle.figure.proofs.Runs.{at-place, Run, run-one, run-on, Ended}
-use Rattle.figure.proofs.Walking.{ahead-equal, ahead-past, before, turn-is, walk-turn, Walked, walk-down}
+use Rattle.figure.proofs.Walking.{Asked, get≢idle, ahead-equal, ahead-past, before, turn-is, walk-turn, Walked, walk-down}
 
-get≢idle : Get ≢ Idle
-get≢idle e = let z : _≡_ {A = ℕ} 0 1 = cc in omega arith
-
-module _ (m : Memory) (g : Ghost) (b : Map) (N : Nodes m g) (B : Book m b) (call : Call) (is-get : call .kind ≡ Get)
-    (k-low : 1 ≤ call .key) (k-max : call .key < MAX) (bound : ℕ) (enough : m .counts .nodes ≤ bound) (i start : ℕ) where
+module _ {m : Memory} {g : Ghost} {b : Map} (N : Nodes m g) (B : Book m b) {call : Call} (P : Asked Get call)
+    (bound : ℕ) (enough : m .counts .nodes ≤ bound) (i start : ℕ) where
   abbrev k : ℕ
   k = call .key
-
-  busy : call .kind ≢ Idle
-  busy e = get≢idle (sym is-get ∙ e)
 
   abbrev r : Pair
   r = findAll bound m head k HMAX 0
@@ -39,10 +33,10 @@ module _ (m : Memory) (g : Ghost) (b : Map) (N : Nodes m g) (B : Book m b) (call
   y = next (m .nodes) 0 (r .pred)
 
   f : Finds m g k 0 r
-  f = all-finds m g N k k-max bound enough HMAX head 0 (omega arith) (at-head m g N k k-max k-low)
+  f = all-finds N (P .key-high) bound enough HMAX head 0 (omega arith) (at-head N (P .key-high) (P .key-low))
 
-  W : Walked m g N call busy k-max i bound (start + 1) HMAX head (replicate 6 0)
-  W = walk-down m g N call busy k-max i bound enough HMAX head (start + 1) (replicate 6 0) (omega arith) (at-head m g N k k-max k-low)
+  W : Walked N P get≢idle i bound (start + 1) HMAX head (replicate 6 0)
+  W = walk-down N P get≢idle i bound enough HMAX head (start + 1) (replicate 6 0) (omega arith) (at-head N (P .key-high) (P .key-low))
 
   abbrev Goal : Reply → Type 0
   Goal o = Ended i start (stepsOf bound m k (o .answer) 0) (at-place (begun call) m) m (o .answer) (o .version) (start + stepsOf bound m k (o .answer) 0)
@@ -56,16 +50,16 @@ module _ (m : Memory) (g : Ghost) (b : Map) (N : Nodes m g) (B : Book m b) (call
   -- the last walk step, where it is known what the link leads to
   bottom : (tick : ℕ) (a : Ahead) → ahead m 0 (r .pred) k ≡ a
       → turnOf (i + 1) tick here m ≡ moved m (walkBy call (here .cursor) tick a)
-  bottom tick a e = walk-turn m g N call busy k-max i tick 0 (r .pred) (W .preds′) (f .spot)
+  bottom tick a e = walk-turn N P get≢idle i tick 0 (r .pred) (W .preds′) (f .spot)
       ∙ ap (λ q. moved m (walkBy call (here .cursor) tick q)) e
 
   used : y ≢ 0 → y ≤ m .counts .nodes
-  used = link-used m g N k k-max (f .spot)
+  used = link-used N (P .key-high) (f .spot)
 
   gives-up : (tick : ℕ) → T (leb k (keyOf m y)) → T (not (eqb k (keyOf m y))) → turnOf (i + 1) tick here m ≡ moved m (End None noVersion tick)
   unfolding walkBy descend walked
   gives-up tick t u =
-      bottom tick Past (ahead-past m k k-max 0 (r .pred) used t u) ∙ ap (λ kind. moved m (walked kind call (here .cursor) tick 0)) is-get
+      bottom tick Past (ahead-past m k (P .key-high) 0 (r .pred) used t u) ∙ ap (λ kind. moved m (walked kind call (here .cursor) tick 0)) (P .kind-is)
 
   none : T (leb k (keyOf m y)) → T (not (eqb k (keyOf m y))) → Goal (record { answer = None; version = noVersion })
   unfolding stepsOf searchSteps stepsAfter
@@ -81,9 +75,9 @@ module _ (m : Memory) (g : Ghost) (b : Map) (N : Nodes m g) (B : Book m b) (call
   to-read : (tick : ℕ) → T (eqb k (keyOf m y)) → Run i tick 1 (at-place here m) (at-place there m)
   unfolding walkBy descend walked processAfter
   to-read tick u =
-      let ne = key-same m k k-max y u .0 in
-      run-one (bottom tick (Equal y) (ahead-equal m k k-max 0 (r .pred) used u)
-      ∙ ap (λ kind. moved m (walked kind call (here .cursor) tick y)) is-get
+      let ne = key-same m k (P .key-high) y u .0 in
+      run-one (bottom tick (Equal y) (ahead-equal m k (P .key-high) 0 (r .pred) used u)
+      ∙ ap (λ kind. moved m (walked kind call (here .cursor) tick y)) (P .kind-is)
       ∙ ap (moved m) (if-no (eqb y 0) _ _ (ne→neqb y 0 ne))) tt
 
   reads : (tick : ℕ) → y ≢ 0 → turnOf (i + 1) tick there m ≡ moved m (End Found (versionAt (m .versions) (newest (m .nodes) y)) tick)
@@ -91,7 +85,7 @@ module _ (m : Memory) (g : Ghost) (b : Map) (N : Nodes m g) (B : Book m b) (call
   reads tick ne =
       let x = newest (m .nodes) y in
       let p = place-in m g b N B y (omega arith) (used ne) in
-      turn-is (i + 1) tick there m (omega arith) (used ne) (rw is-get tt)
+      turn-is (i + 1) tick there m (omega arith) (used ne) (rw (P .kind-is) tt)
       ∙ ap (moved m) (if-yes (usedVersion m x) _ _ (within-T (p .0) (p .1)))
 
   found : T (eqb k (keyOf m y)) → Goal (record { answer = Found; version = versionAt (m .versions) (newest (m .nodes) y) })
@@ -101,7 +95,7 @@ module _ (m : Memory) (g : Ghost) (b : Map) (N : Nodes m g) (B : Book m b) (call
     steps-is = omega arith;
     last = at-place there m;
     run = run-on (W .run) (to-read (start + 1 + (hopsDown bound m head k HMAX + HMAX)) u);
-    ends = reads _ (key-same m k k-max y u .0);
+    ends = reads _ (key-same m k (P .key-high) y u .0);
   }
 
   pub get-ends : Goal (get bound m k)

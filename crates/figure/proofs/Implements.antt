@@ -1,5 +1,5 @@
 -- Figure 1 implements the plain ledger: each procedure answers as the ledger does, and leaves memory that holds what the ledger holds.
-use Prim.Native.Nat.{ℕ, zero, suc, _+_, _≤_, _<_}
+use Prim.Native.Nat.{ℕ, zero, suc, _≤_, _<_}
 use mathlib.Core.List.{List, [], _∷_}
 use mathlib.Core.Path.{_≡_, refl, sym, ap, _∙_, subst}
 use native.Mathlib.Omega.{arith}
@@ -7,7 +7,7 @@ use lib.ListN.{length, replicate, length-replicate}
 use Rattle.model.specs.Layout.{Memory, nodeWords, versionWords, capacity, lock}
 use Rattle.model.specs.Map.{Map, putIn, answered, Reply}
 use Rattle.model.specs.State.{lawfulNodes, lawfulVersions}
-use Rattle.model.specs.Phases.{ownVersion, maxNodes, maxVersions}
+use Rattle.model.specs.Phases.{maxNodes, maxVersions}
 use Rattle.model.specs.Calls.{openOf, topOf, Store}
 use Rattle.model.specs.History.{Invoked, emptyHistory, putOperation, begin}
 use Rattle.model.specs.Linearizability.{fedBy, replyBy, replyOf, All}
@@ -18,12 +18,12 @@ use Rattle.model.proofs.Effects.{Took, played}
 use Rattle.model.proofs.Live.{Live}
 use Rattle.model.proofs.Stepped.{put-reply, put-fed}
 use Rattle.model.proofs.Opened.{opened-live}
-use Rattle.figure.specs.Types.{Put, Get, Call, Opening}
-use Rattle.figure.specs.Figure.{HMAX, MAX, head, get, alone, put}
-use Rattle.figure.specs.Steps.{searchSteps, stepsOf}
+use Rattle.figure.specs.Types.{Opening}
+use Rattle.figure.specs.Figure.{HMAX, MAX, head, alone, put}
 use Rattle.figure.specs.Alone.{memoryIn, Free, Unlocked}
 use Rattle.figure.specs.OneByOne.{Request, putting, getting, operationOf, figureReply, figureMemory, figureAll, ledgerAll, Lawful, FigureImplements}
 use Rattle.figure.proofs.Search.{at-head, all-finds}
+use Rattle.figure.proofs.Walking.{put≢idle, get≢idle, asked-put, asked-get}
 use Rattle.figure.proofs.Getting.{get-ends}
 use Rattle.figure.proofs.Putting.{put-ends, put-locks}
 use Rattle.figure.proofs.Ledger as L
@@ -48,39 +48,34 @@ module _ {K W : ℕ} {m : Memory} {b : Map} (O : Ordered K W m b) (bound : ℕ) 
   gets : (i k : ℕ) → (1 ≤ k) × (k < MAX) → Does K W bound m b (getting i k)
   unfolding figureReply figureMemory replyBy fedBy
   gets i k range =
-      let call : Call = record { kind = Get; key = k; value = 0; timestamp = 0; top = 0; start = 0 } in
-      let r = get bound m k in
-      let n = stepsOf bound m k (r .answer) 0 in
-      let E = get-ends m (O .ghost) b (O .nodes) (O .book) call refl (range .0) (range .1) bound (omega (arith, room)) i 0 in
-      let P = L.played m (O .ghost) b (O .nodes) (O .book) call (λ e. let z : _≡_ {A = ℕ} 0 1 = cc in omega arith) (range .0) (omega arith) i 0 n m (r .answer) (r .version) (0 + n) E in
-      record { replies = sym (P .got refl .1); leaves = O }
+      let P = asked-get k 0 range in
+      let E = get-ends (O .nodes) (O .book) P bound (omega arith) i 0 in
+      record { replies = sym (L.played (O .nodes) (O .book) P get≢idle i E .got refl .1); leaves = O }
 
   frees : (k h : ℕ) → (1 ≤ k) × (k < MAX) → h ≤ HMAX → Free bound m k h
   frees k h range h5 l le =
-      let f = all-finds m (O .ghost) (O .nodes) k (range .1) bound (omega (arith, room)) HMAX head l (omega arith) (at-head m (O .ghost) (O .nodes) k (range .1) (range .0)) in
+      let f = all-finds (O .nodes) (range .1) bound (omega (arith, room)) HMAX head l (omega arith) (at-head (O .nodes) (range .1) (range .0)) in
       O .unlocked l _ (omega arith) (f .spot .used)
 
   puts : (i k v t draw : ℕ) → (1 ≤ k) × (k < MAX) → Does K W bound m b (putting i k v t draw)
   unfolding figureReply figureMemory put
   puts i k v t draw range =
-      let call : Call = record { kind = Put; key = k; value = v; timestamp = t; top = topOf draw; start = 0 } in
+      let P = asked-put k v t draw 0 range in
       let o = put alone i bound m k v t draw in
-      let n = stepsOf bound m k (o .answer) (topOf draw) in
       let free = frees k (topOf draw) range (top-at-most draw) in
-      let E = put-ends m (O .ghost) b (O .nodes) (O .book) call refl (range .0) (range .1) (top-at-most draw) bound room i 0 free in
-      let P = L.played m (O .ghost) b (O .nodes) (O .book) call (λ e. let z : _≡_ {A = ℕ} 0 1 = cc in omega arith) (range .0) (top-at-most draw) i 0 n (o .memory) (o .answer)
-      (ownVersion call) (0 + (searchSteps bound m k + 4)) E in
-      let locks = put-locks m (O .ghost) b (O .nodes) (O .book) call refl (range .0) (range .1) (top-at-most draw) bound room i 0 free in
-      let plays : putIn K W b k (ownVersion call) ≡ answered (P .map) (o .answer) = rw (O .K-is, O .W-is) at (P .put refl) in
+      let E = put-ends (O .nodes) (O .book) P bound room i 0 free in
+      let done = L.played (O .nodes) (O .book) P put≢idle i E in
+      let locks = put-locks (O .nodes) (O .book) P bound room i 0 free in
+      let plays : putIn K W b k (record { value = v; timestamp = t }) ≡ answered (done .map) (o .answer) = rw (O .K-is, O .W-is) at (done .put refl) in
       record {
-        replies = sym (put-reply K W b (P .map) (putOperation k v t) (o .answer) refl plays);
-        leaves = subst (λ (z : Map). Ordered K W (o .memory) z) (put-fed K W b (P .map) (putOperation k v t) (o .answer) refl plays) (record {
-          ghost = P .ghost;
-          nodes = P .nodes;
-          book = P .book;
+        replies = sym (put-reply K W b (done .map) (putOperation k v t) (o .answer) refl plays);
+        leaves = subst (λ (z : Map). Ordered K W (o .memory) z) (put-fed K W b (done .map) (putOperation k v t) (o .answer) refl plays) (record {
+          ghost = done .ghost;
+          nodes = done .nodes;
+          book = done .book;
           unlocked = λ l x l5 hx. by-le x (m .counts .nodes) (λ le. locks l x l5 .0 le ∙ O .unlocked l x l5 le) (λ lt. locks l x l5 .1 lt hx);
-          K-is = ap (capacity nodeWords) (P .sized .nodes) ∙ O .K-is;
-          W-is = ap (capacity versionWords) (P .sized .versions) ∙ O .W-is;
+          K-is = ap (capacity nodeWords) (done .sized .nodes) ∙ O .K-is;
+          W-is = ap (capacity versionWords) (done .sized .versions) ∙ O .W-is;
         });
       }
 

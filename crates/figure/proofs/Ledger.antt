@@ -1,6 +1,6 @@
 -- The figure's get and put answer what the plain ledger answers, and put leaves memory that holds what the ledger's put leaves: by
 -- the steps that they are, each of which is good.
-use Prim.Native.Nat.{ℕ, zero, suc, _+_, _≤_, _<_}
+use Prim.Native.Nat.{ℕ, zero, suc, _+_, _<_}
 use mathlib.Core.Logic.{_≢_, _⊎_, inl, inr}
 use mathlib.Core.Path.{_≡_, refl, sym, ap, _∙_, subst}
 use native.Mathlib.Omega.{arith}
@@ -14,6 +14,7 @@ use Rattle.model.proofs.Invariant.{Ghost, Nodes, Book, At, PlacedOf, Fits}
 use Rattle.model.proofs.Step.{Does, Good, Result}
 use Rattle.model.proofs.Turn.{turn-good}
 use Rattle.figure.specs.Types.{Kind, Idle, Put, Get, Walk, Answer, Call, Effect, Process, Version, Move, Refuse, Wait, Go, Note, Commit, End}
+use Rattle.figure.proofs.Walking.{Asked}
 use Rattle.figure.proofs.Runs.{Going, Place, at-place, stepped, place-after, Goes, after-call, run-call, Ended}
 
 -- a process that has a call, and memory in order that holds the map b
@@ -125,26 +126,29 @@ pub record Played (m left : Memory) (call : Call) (b : Map) (a : Answer) (v : Ve
   pub got : call .kind ≡ Get → (map ≡ b) × (getFrom b (call .key) ≡ record { answer = a; version = v })
   pub put : call .kind ≡ Put → puts m call b ≡ answered map a
 
-module _ (m : Memory) (g : Ghost) (b : Map) (N : Nodes m g) (B : Book m b) (call : Call) (busy : call .kind ≢ Idle) (low : 1 ≤ call .key)
-    (top5 : call .top ≤ 5) (i : ℕ) where
+module _ {m : Memory} {g : Ghost} {b : Map} (N : Nodes m g) (B : Book m b) {kind : Kind} {call : Call} (P : Asked kind call) (busy : kind ≢ Idle)
+    (i : ℕ) where
+  has-call : call .kind ≢ Idle
+  has-call e = busy (sym (P .kind-is) ∙ e)
+
   begun-placed : PlacedOf m g (begun call)
-  begun-placed = record { top5 = top5; six = refl; spot = at 5 (omega arith); memo = λ j h. rw (filled {A = ℕ} 6 j 0) (at j h) }
+  begun-placed = record { top5 = P .top-high; six = refl; spot = at 5 (omega arith); memo = λ j h. rw (filled {A = ℕ} 6 j 0) (at j h) }
     where
       at : (j : ℕ) → j < 6 → At m g j 0 (call .key)
-      at j h = record { used = omega arith; up = omega (arith, N .head-high); low = omega (arith, N .head-key) }
+      at j h = record { used = omega arith; up = omega (arith, N .head-high); low = omega (arith, N .head-key, P .key-low) }
 
   begun-fits : (kind : Kind) → call .kind ≡ kind → kind ≢ Idle → Fits m g i (begun call)
   begun-fits Idle e ne = absurd (ne refl)
   begun-fits Get e ne = record { kind = Get; phase = Walk; kind-is = e; phase-is = refl; ok = (begun-placed, (refl, refl)) }
   begun-fits Put e ne = record { kind = Put; phase = Walk; kind-is = e; phase-is = refl; ok = (begun-placed, (refl, refl)) }
 
-  module _ (start n : ℕ) (left : Memory) (a : Answer) (v : Version) (e : ℕ) (E : Ended i start n (at-place (begun call) m) left a v e) where
+  module _ {start n : ℕ} {left : Memory} {a : Answer} {v : Version} {e : ℕ} (E : Ended i start n (at-place (begun call) m) left a v e) where
     abbrev last : Place
     last = E .last
 
     kept : Kept i (at-place (begun call) m) last b
-    kept = kept-goes i (start + 1) (E .before) (at-place (begun call) m) last b (λ z. omega arith) busy
-        (record { ghost = g; nodes = N; book = B; fits = begun-fits (call .kind) refl busy }) (E .run .goes)
+    kept = kept-goes i (start + 1) (E .before) (at-place (begun call) m) last b (λ z. omega arith) has-call
+        (record { ghost = g; nodes = N; book = B; fits = begun-fits (call .kind) refl has-call }) (E .run .goes)
 
     same : last .process .call ≡ call
     same = run-call (E .run)
@@ -153,7 +157,7 @@ module _ (m : Memory) (g : Ghost) (b : Map) (N : Nodes m g) (B : Book m b) (call
     good : Good (last .memory) (kept .held .ghost) i (last .process) (start + n) (kept .map) (End a v e) left
     good = subst (λ (r : Moved). Result (last .memory) (kept .held .ghost) i (last .process) (start + n) (kept .map) r) (E .ends)
         (turn-good (last .memory) (kept .held .ghost) i (last .process) (start + n) (kept .map) (kept .held .nodes) (kept .held .book) (λ z. omega (arith, E .steps-is))
-        (kept .held .fits) (λ z. busy (ap (λ (c : Call). c .kind) (sym same) ∙ z)))
+        (kept .held .fits) (λ z. has-call (ap (λ (c : Call). c .kind) (sym same) ∙ z)))
 
     -- as a get it found the map as it was; as a put it played the put
     gets : (last .process .effect .tick ≡ 0) → getFrom (kept .map) (last .process .call .key) ≡ record { answer = a; version = v }

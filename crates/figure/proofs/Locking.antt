@@ -16,7 +16,7 @@ use Rattle.figure.specs.Types.{Put, Phase, Walk, Read, Seek, Lock, Check
 use Rattle.figure.specs.Figure.{MAX, tail, keyOf, Pair, acquire, alone, findLock}
 use Rattle.figure.proofs.Search.{Finds, find-stop, link-used, level5}
 use Rattle.figure.proofs.Runs.{at-place, Run, run-one, run-on}
-use Rattle.figure.proofs.Walking.{pose, turn-is, ahead-stop}
+use Rattle.figure.proofs.Walking.{Asked, pose, turn-is, ahead-stop}
 
 -- a key is what it was where the node's key word is
 pub key-kept : (m m′ : Memory) (y : ℕ) → (y ≢ tail → key (m′ .nodes) y ≡ key (m .nodes) y) → keyOf m′ y ≡ keyOf m y
@@ -33,11 +33,11 @@ pub record Ready (m : Memory) (k l q : ℕ) : Type 0 where
   pub stop : T (leb k (keyOf m (next (m .nodes) l q)))
 
 -- find stops so
-pub finds-ready : (m : Memory) (g : Ghost) → Nodes m g → (k : ℕ) → k < MAX → {l : ℕ} {r : Pair} → Finds m g k l r → Ready m k l (r .pred)
-finds-ready m g N k k-max {l} {r} f = record {
-  level = level5 m g N k k-max (f .spot);
+pub finds-ready : {m : Memory} {g : Ghost} → Nodes m g → {k l : ℕ} {r : Pair} → k < MAX → Finds m g k l r → Ready m k l (r .pred)
+finds-ready N k-max f = record {
+  level = level5 N k-max (f .spot);
   used = f .spot .used;
-  linked = link-used m g N k k-max (f .spot);
+  linked = link-used N k-max (f .spot);
   stop = rw (f .succ-is) at (f .stop);
 }
 
@@ -53,7 +53,7 @@ Works Make = Unit {0}
 Works Link = Unit {0}
 Works Release = ⊥
 
-module _ (call : Call) (is-put : call .kind ≡ Put) (i made : ℕ) (a : Answer) (e : ℕ)
+module _ {call : Call} (P : Asked Put call) (i made : ℕ) (a : Answer) (e : ℕ)
     (lawful : T (noEffect (record { answer = a; tick = e }) || fromPut a)) where
   lawful-at : (ph : Phase) → Works ph → T (lawfulAt Put ph (record { answer = a; tick = e }))
   unfolding lawfulAt
@@ -70,9 +70,9 @@ module _ (call : Call) (is-put : call .kind ≡ Put) (i made : ℕ) (a : Answer)
   pub work-turn : (m : Memory) (ph : Phase) (l q : ℕ) (preds : List ℕ) → Works ph → l ≤ 5 → q ≤ m .counts .nodes → (tick : ℕ)
       → turnOf (i + 1) tick (pose call ph l q preds made a e) m ≡ phaseOf ph (i + 1) tick (pose call ph l q preds made a e) m
   work-turn m ph l q preds w l5 used tick = turn-is (i + 1) tick (pose call ph l q preds made a e) m l5 used
-      (subst (λ kind. T (lawfulAt kind ph (record { answer = a; tick = e }))) (sym is-put) (lawful-at ph w))
+      (subst (λ kind. T (lawfulAt kind ph (record { answer = a; tick = e }))) (sym (P .kind-is)) (lawful-at ph w))
 
-  module _ (k-max : call .key < MAX) (m : Memory) (l q : ℕ) (preds : List ℕ) (R : Ready m (call .key) l q) where
+  module _ {m : Memory} {l q : ℕ} (R : Ready m (call .key) l q) (preds : List ℕ) where
     abbrev k : ℕ
     k = call .key
 
@@ -101,7 +101,7 @@ module _ (call : Call) (is-put : call .kind ≡ Put) (i made : ℕ) (a : Answer)
     pub seek-on : (tick : ℕ) → Run i tick 1 (at-place (stands Seek) m) (at-place (stands Lock) m)
     unfolding phaseOf seekOf seekBy processAfter
     seek-on tick = run-one (work-turn m Seek l q preds tt (R .level) (R .used) tick
-        ∙ ahead-stop m k k-max l q (R .linked) (λ x. moved m (seekBy (stands Seek .cursor) x) ≡ moved m (Go (stands Lock .cursor))) (R .stop) refl refl) tt
+        ∙ ahead-stop m k (P .key-high) l q (R .linked) (λ x. moved m (seekBy (stands Seek .cursor) x) ≡ moved m (Go (stands Lock .cursor))) (R .stop) refl refl) tt
 
     lock-turn : (tick : ℕ) → turnOf (i + 1) tick (stands Lock) m ≡ lockOf (stands Lock .cursor) (i + 1) m
     unfolding phaseOf

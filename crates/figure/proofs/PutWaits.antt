@@ -10,14 +10,14 @@ use Rattle.model.specs.State.{noProcess, withEvent}
 use Rattle.model.specs.Phases.{moved}
 use Rattle.model.specs.Calls.{begun, startPermit, startPutOf, topOf, Store, Stepped, processAfter, outcomeOf, tallyAfter, stepBy, stepOf}
 use Rattle.model.specs.History.{History, startPut, withState, perform, sawStep}
-use Rattle.model.proofs.Laws.{top-at-most}
 use Rattle.model.proofs.Live.{memory, Live}
 use Rattle.model.proofs.Stepped.{step-live}
-use Rattle.figure.specs.Types.{Put, Call, State, Wait, Stepping}
+use Rattle.figure.specs.Types.{Call, State, Wait, Stepping}
 use Rattle.figure.specs.Figure.{alone, put, leftBelow}
 use Rattle.figure.specs.Steps.{searchSteps}
 use Rattle.figure.specs.Alone.{Turned, turned, memoryIn, waits, waited, Waits, PutWaits}
 use Rattle.figure.proofs.Runs.{Place, at-place, stepped, Waiting}
+use Rattle.figure.proofs.Walking.{put-call, asked-put}
 use Rattle.figure.proofs.Putting.{put-waits}
 use Rattle.figure.proofs.Lifted.{later, place-in, step-is, placed, lift}
 use Rattle.figure.proofs.Called.{accepted, Lives, reached-lives, acted-lives, here}
@@ -78,15 +78,15 @@ module _ {K W : ℕ} (w : Store) (i : ℕ) (call : Call) {h : History}
 
 pub put-waits-alone : PutWaits
 unfolding startPutOf perform put
-put-waits-alone w reached bound enough i k v t draw l start le free taken new o time =
+put-waits-alone w reached bound enough i k v t draw l begun-at le free taken new o time =
     let m = memoryIn w in
-    let call : Call = record { kind = Put; key = k; value = v; timestamp = t; top = topOf draw; start = w .state .events + 1 } in
-    let a = accepted w i start call (startPermit (w .state) (w .nodes) (w .versions) i k) refl o in
+    let now = w .state .events + 1 in
+    let call = put-call k v t draw now in
+    let a = accepted w i begun-at call (startPermit (w .state) (w .nodes) (w .versions) i k) refl o in
     let lives = reached-lives reached in
     let c = lives .live .core in
     let l₁ = subst (λ (s : State). Lives (withState w s)) (a .state-is) (acted-lives lives (startPut i k v t draw)) in
     let n = searchSteps bound m k + 1 + 5 * l in
-    let e = put-waits m (lives .live .g) (lives .live .b) (c .nodes) (c .book) call refl (a .key-low) (omega (arith, a .key-high)) (top-at-most draw) bound enough i
-    (w .state .events + 1) l le free taken new in
+    let e = put-waits (c .nodes) (c .book) (asked-put k v t draw now (a .range)) bound enough i now l le free taken new in
     rw (a .state-is, a .start-is)
     (waits-there w i call (l₁ .live) (a .below) refl n (leftBelow alone i bound m k v t (topOf draw) l) e (omega (arith, a .start-is)))

@@ -18,18 +18,18 @@ use Rattle.model.proofs.Tests.{if-yes, if-no, by-eq}
 use Rattle.model.proofs.Words.{word-same, word-other}
 use Rattle.model.proofs.Invariant.{Ghost, Nodes, Book}
 use Rattle.figure.specs.Types.{Put, Lock, Release, Answer, TooOld, VersionsFull, Added, KeysFull, New, Found, None, Call, End}
-use Rattle.figure.specs.Figure.{HMAX, MAX, head, Pair, findAll, Inserted, release, alone, insertAbove, insertAll, putH, leftBelow}
+use Rattle.figure.specs.Figure.{HMAX, head, Pair, findAll, Inserted, release, alone, insertAbove, insertAll, putH, leftBelow}
 use Rattle.figure.specs.Steps.{hopsDown, searchSteps, stepsAfter, stepsOf}
 use Rattle.figure.proofs.Search.{Finds, at-head, all-finds, all-next}
 use Rattle.figure.proofs.Runs.{at-place, Run, run-on, run-same, Ended, Waiting}
-use Rattle.figure.proofs.Walking.{pose, turn-is, Walked, walk-down}
-use Rattle.figure.proofs.Bottom.{put-busy, made-of, Plain, done, closed, try-is, Settles, Makes, walk-on, bottom}
+use Rattle.figure.proofs.Walking.{Asked, put≢idle, pose, turn-is, Walked, walk-down}
+use Rattle.figure.proofs.Bottom.{made-of, Plain, done, closed, try-is, Settles, Makes, walk-on, bottom}
 use Rattle.figure.proofs.Locking.{finds-ready, seek-on, lock-waits}
 use Rattle.figure.proofs.Rising.{Risen, made-risen}
 use Rattle.figure.proofs.Climbing.{above, releases, release-turn, Climbed, climb, rises, seeks, waits}
 
-module _ (m : Memory) (g : Ghost) (b : Map) (N : Nodes m g) (B : Book m b) (call : Call) (is-put : call .kind ≡ Put)
-    (k-low : 1 ≤ call .key) (k-max : call .key < MAX) (top5 : call .top ≤ 5) (bound : ℕ) (enough : m .counts .nodes < bound) (i start : ℕ) where
+module _ {m : Memory} {g : Ghost} {b : Map} (N : Nodes m g) (B : Book m b) {call : Call} (P : Asked Put call)
+    (bound : ℕ) (enough : m .counts .nodes < bound) (i start : ℕ) where
   abbrev k : ℕ
   k = call .key
 
@@ -41,7 +41,7 @@ module _ (m : Memory) (g : Ghost) (b : Map) (N : Nodes m g) (B : Book m b) (call
   path l = findAll bound m head k HMAX l .pred
 
   finds-at : (l : ℕ) → l ≤ HMAX → Finds m g k l (findAll bound m head k HMAX l)
-  finds-at l le = all-finds m g N k k-max bound (omega arith) HMAX head l le (at-head m g N k k-max k-low)
+  finds-at l le = all-finds N (P .key-high) bound (omega arith) HMAX head l le (at-head N (P .key-high) (P .key-low))
 
   -- what the figure has left when it has come up to level l
   abbrev out : ℕ → Inserted
@@ -50,12 +50,12 @@ module _ (m : Memory) (g : Ghost) (b : Map) (N : Nodes m g) (B : Book m b) (call
   out-next : (l : ℕ) → l < HMAX → out (suc l) ≡ insertAbove alone i bound (out l) (path (suc l)) (suc l) (out l .node)
   unfolding insertAll
   out-next l lt = ap (λ (r : Pair). let o = insertAll alone i bound m (r .pred) k (call .value) (call .timestamp) h l in
-      insertAbove alone i bound o (path (suc l)) (suc l) (o .node)) (sym (all-next m g N k k-max bound head HMAX l lt))
+      insertAbove alone i bound o (path (suc l)) (suc l) (o .node)) (sym (all-next m k bound head HMAX l lt))
 
   -- ---- the walk
 
-  W : Walked m g N call (put-busy call is-put) k-max i bound (start + 1) HMAX head (replicate 6 0)
-  W = walk-down m g N call (put-busy call is-put) k-max i bound (omega arith) HMAX head (start + 1) (replicate 6 0) (omega arith) (at-head m g N k k-max k-low)
+  W : Walked N P put≢idle i bound (start + 1) HMAX head (replicate 6 0)
+  W = walk-down N P put≢idle i bound (omega arith) HMAX head (start + 1) (replicate 6 0) (omega arith) (at-head N (P .key-high) (P .key-low))
 
   abbrev walked : ℕ
   walked = hopsDown bound m head k HMAX + HMAX
@@ -81,14 +81,14 @@ module _ (m : Memory) (g : Ghost) (b : Map) (N : Nodes m g) (B : Book m b) (call
 
   out-zero : out 0 ≡ closed (path 0) o
   unfolding insertAll
-  out-zero = try-is m g b N B call is-put k-max top5 i (finds-at 0 (omega arith)) (W .preds′) bound (omega arith)
+  out-zero = try-is N B P i (finds-at 0 (omega arith)) (W .preds′) bound (omega arith)
 
   low : lock (m .nodes) 0 (path 0) ≡ 0
       → Run i (start + 1) (walked + 5) (at-place (begun call) m)
       (at-place (pose call Release 0 (path 0) preds (made-of (o .node)) (o .answer) effect) (o .memory))
       × (Settles m i (path 0) o ⊎ Makes m call i (path 0) o)
   low free =
-      let r = bottom m g b N B call is-put k-max top5 i (finds-at 0 (omega arith)) (W .preds′) free (start + 1 + walked) in
+      let r = bottom N B P i (finds-at 0 (omega arith)) (W .preds′) free (start + 1 + walked) in
       (run-on (W .run) (r .0), r .1)
 
   -- ---- a put that made no node: its release is its end
@@ -101,10 +101,10 @@ module _ (m : Memory) (g : Ghost) (b : Map) (N : Nodes m g) (B : Book m b) (call
   plain-turn : (m₂ : Memory) (made tick e : ℕ) (a : Answer) → Plain a → path 0 ≤ m₂ .counts .nodes
       → turnOf (i + 1) tick (pose call Release 0 (path 0) preds made a e) m₂ ≡ moved (release m₂ (path 0) 0) (End a (ownVersion call) e)
   unfolding phaseOf releaseOf released isNew placeOf freed lawfulAt fromPut
-  plain-turn m₂ made tick e TooOld p used = turn-is (i + 1) tick (pose call Release 0 (path 0) preds made TooOld e) m₂ (omega arith) used (rw is-put tt)
-  plain-turn m₂ made tick e VersionsFull p used = turn-is (i + 1) tick (pose call Release 0 (path 0) preds made VersionsFull e) m₂ (omega arith) used (rw is-put tt)
-  plain-turn m₂ made tick e Added p used = turn-is (i + 1) tick (pose call Release 0 (path 0) preds made Added e) m₂ (omega arith) used (rw is-put tt)
-  plain-turn m₂ made tick e KeysFull p used = turn-is (i + 1) tick (pose call Release 0 (path 0) preds made KeysFull e) m₂ (omega arith) used (rw is-put tt)
+  plain-turn m₂ made tick e TooOld p used = turn-is (i + 1) tick (pose call Release 0 (path 0) preds made TooOld e) m₂ (omega arith) used (rw (P .kind-is) tt)
+  plain-turn m₂ made tick e VersionsFull p used = turn-is (i + 1) tick (pose call Release 0 (path 0) preds made VersionsFull e) m₂ (omega arith) used (rw (P .kind-is) tt)
+  plain-turn m₂ made tick e Added p used = turn-is (i + 1) tick (pose call Release 0 (path 0) preds made Added e) m₂ (omega arith) used (rw (P .kind-is) tt)
+  plain-turn m₂ made tick e KeysFull p used = turn-is (i + 1) tick (pose call Release 0 (path 0) preds made KeysFull e) m₂ (omega arith) used (rw (P .kind-is) tt)
   plain-turn m₂ made tick e New p used = absurd p
   plain-turn m₂ made tick e Found p used = absurd p
   plain-turn m₂ made tick e None p used = absurd p
@@ -140,7 +140,7 @@ module _ (m : Memory) (g : Ghost) (b : Map) (N : Nodes m g) (B : Book m b) (call
   -- ---- a put that made a node climbs as far as the locks are free
 
   abbrev Up : (l : ℕ) → Type 0
-  Up l = Climbed m g N call is-put k-max top5 i start effect (at-place (begun call) m) preds (walked + 5 + 5 * l) l (path l) (out l)
+  Up l = Climbed N P i start effect (at-place (begun call) m) preds (walked + 5 + 5 * l) l (path l) (out l)
 
   made-up : lock (m .nodes) 0 (path 0) ≡ 0 → Makes m call i (path 0) o → Up 0
   made-up free M = record {
@@ -163,11 +163,11 @@ module _ (m : Memory) (g : Ghost) (b : Map) (N : Nodes m g) (B : Book m b) (call
 
   climbs : (l : ℕ) → suc l ≤ h → lock (m .nodes) (suc l) (path (suc l)) ≡ 0 → Up l → Up (suc l)
   climbs l le free U = subst
-      (λ (r : Inserted). Climbed m g N call is-put k-max top5 i start effect (at-place (begun call) m) preds (walked + 5 + 5 * suc l) (suc l) (path (suc l)) r)
+      (λ (r : Inserted). Climbed N P i start effect (at-place (begun call) m) preds (walked + 5 + 5 * suc l) (suc l) (path (suc l)) r)
       (sym (out-next l (omega arith)))
-      (subst (λ n. Climbed m g N call is-put k-max top5 i start effect (at-place (begun call) m) preds n (suc l) (path (suc l))
+      (subst (λ n. Climbed N P i start effect (at-place (begun call) m) preds n (suc l) (path (suc l))
       (insertAbove alone i bound (out l) (path (suc l)) (suc l) (out l .node))) (sum walked l)
-      (climb m g N call is-put k-max top5 i start effect (at-place (begun call) m) preds bound (omega arith) (walked + 5 + 5 * l) l (path l) (out l)
+      (climb N P i start effect (at-place (begun call) m) preds bound (omega arith) (walked + 5 + 5 * l) l (path l) (out l)
       U le (finds-at (suc l) (omega arith)) (known l (omega arith)) free))
     where
       sum : (w l : ℕ) → w + 5 + 5 * l + 5 ≡ w + 5 + 5 * suc l
@@ -178,20 +178,20 @@ module _ (m : Memory) (g : Ghost) (b : Map) (N : Nodes m g) (B : Book m b) (call
   all-up M (suc l) le free = climbs l le (free (suc l) (omega arith)) (all-up M l (omega arith) (λ j jl. free j (omega arith)))
 
   top-turn : (held : Memory) (tick : ℕ) → path h ≤ held .counts .nodes
-      → turnOf (i + 1) tick (releases call is-put i preds (m .counts .nodes + 1) effect h (path h)) held
+      → turnOf (i + 1) tick (releases P i preds (m .counts .nodes + 1) effect h (path h)) held
       ≡ moved (release held (path h) h) (End New (ownVersion call) effect)
   unfolding rise freed
   top-turn held tick used =
-      release-turn call is-put i preds (m .counts .nodes + 1) effect held h (path h) tick top5 used
-      ∙ ap (λ v. freed (releases call is-put i preds (m .counts .nodes + 1) effect h (path h) .cursor) held v)
-      (if-no (ltb topLevel h) _ _ (above topLevel h top5) ∙ if-yes (leb h h) _ _ (le→leb h h (omega arith)))
+      release-turn P i preds (m .counts .nodes + 1) effect held h (path h) tick (P .top-high) used
+      ∙ ap (λ v. freed (releases P i preds (m .counts .nodes + 1) effect h (path h) .cursor) held v)
+      (if-no (ltb topLevel h) _ _ (above topLevel h (P .top-high)) ∙ if-yes (leb h h) _ _ (le→leb h h (omega arith)))
 
   made-ends : Up h → Ends (out h)
   unfolding stepsOf searchSteps stepsAfter
   made-ends U = rw (U .out-is) (record {
     before = walked + 5 + 5 * h;
     steps-is = omega arith;
-    last = at-place (releases call is-put i preds (m .counts .nodes + 1) effect h (path h)) (U .held);
+    last = at-place (releases P i preds (m .counts .nodes + 1) effect h (path h)) (U .held);
     run = U .run;
     ends = top-turn (U .held) _ (U .used) ∙ ap (λ t. moved (release (U .held) (path h) h) (End New (ownVersion call) t)) effect-is;
   })
@@ -202,12 +202,12 @@ module _ (m : Memory) (g : Ghost) (b : Map) (N : Nodes m g) (B : Book m b) (call
   unfolding searchSteps
   waits-low taken =
       let f = finds-at 0 (omega arith) in
-      let R = finds-ready m g N k k-max f in
+      let R = finds-ready N (P .key-high) f in
       record {
         process = pose call Lock 0 (path 0) preds 0 None 0;
-        run = run-same (omega arith) (run-on (run-on (W .run) (walk-on m g b N B call is-put k-max top5 i f (W .preds′) (start + 1 + walked)))
-            (seek-on call is-put i 0 None 0 tt k-max m 0 (path 0) preds R (start + 1 + (walked + 1))));
-        waits = λ tick. lock-waits call is-put i 0 None 0 tt k-max m 0 (path 0) preds R tick taken;
+        run = run-same (omega arith) (run-on (run-on (W .run) (walk-on N B P i f (W .preds′) (start + 1 + walked)))
+            (seek-on P i 0 None 0 tt R preds (start + 1 + (walked + 1))));
+        waits = λ tick. lock-waits P i 0 None 0 tt R preds tick taken;
       }
 
   waits-up : (l : ℕ) → suc l ≤ h → lock (m .nodes) (suc l) (path (suc l)) ≢ 0 → Up l
@@ -219,9 +219,9 @@ module _ (m : Memory) (g : Ghost) (b : Map) (N : Nodes m g) (B : Book m b) (call
       rw (U .out-is) (record {
         process = pose call Lock (suc l) (path (suc l)) preds (m .counts .nodes + 1) New effect;
         run = run-same (omega arith) (run-on (run-on (U .run)
-            (rises m g N call is-put k-max top5 i start effect x preds bound (omega arith) (walked + 5 + 5 * l) l (path l) (out l) U le f (known l (omega arith)) (start + 1 + (walked + 5 + 5 * l))))
-            (seeks m g N call is-put k-max top5 i start effect x preds bound (omega arith) (walked + 5 + 5 * l) l (path l) (out l) U le f (known l (omega arith)) (start + 1 + (walked + 5 + 5 * l + 1))));
-        waits = λ tick. waits m g N call is-put k-max top5 i start effect x preds bound (omega arith) (walked + 5 + 5 * l) l (path l) (out l) U le f (known l (omega arith)) tick taken;
+            (rises N P i start effect x preds bound (omega arith) (walked + 5 + 5 * l) l (path l) (out l) U le f (known l (omega arith)) (start + 1 + (walked + 5 + 5 * l))))
+            (seeks N P i start effect x preds bound (omega arith) (walked + 5 + 5 * l) l (path l) (out l) U le f (known l (omega arith)) (start + 1 + (walked + 5 + 5 * l + 1))));
+        waits = λ tick. waits N P i start effect x preds bound (omega arith) (walked + 5 + 5 * l) l (path l) (out l) U le f (known l (omega arith)) tick taken;
       })
 
   -- the answer is that of the bottom level
@@ -244,7 +244,7 @@ module _ (m : Memory) (g : Ghost) (b : Map) (N : Nodes m g) (B : Book m b) (call
     where
       by : Settles m i (path 0) o ⊎ Makes m call i (path 0) o
           → Waiting i start (searchSteps bound m k + 1 + 5 * suc l) (at-place (begun call) m) (out l .memory)
-      by (inl s) = absurd (subst Plain (sym (answers h top5) ∙ new (λ e. omega arith)) (s .answer))
+      by (inl s) = absurd (subst Plain (sym (answers h (P .top-high)) ∙ new (λ e. omega arith)) (s .answer))
       by (inr M) = waits-up l le taken (all-up M l (omega arith) (λ j jl. free j (omega arith)))
 
   -- ---- the whole put, where the locks that it needs are free
@@ -255,7 +255,7 @@ module _ (m : Memory) (g : Ghost) (b : Map) (N : Nodes m g) (B : Book m b) (call
     put-ends = by (low (free 0 (omega arith)) .1)
       where
         by : Settles m i (path 0) o ⊎ Makes m call i (path 0) o → Ends (out h)
-        by (inl s) = rw (settled-out s h top5) (settled-ends (free 0 (omega arith)) s)
+        by (inl s) = rw (settled-out s h (P .top-high)) (settled-ends (free 0 (omega arith)) s)
         by (inr M) = made-ends (all-up M h (omega arith) free)
 
     -- ---- its locks are free again
@@ -299,5 +299,5 @@ module _ (m : Memory) (g : Ghost) (b : Map) (N : Nodes m g) (B : Book m b) (call
     put-locks = by (low (free 0 (omega arith)) .1)
       where
         by : Settles m i (path 0) o ⊎ Makes m call i (path 0) o → LocksKept (out h .memory)
-        by (inl s) = rw (settled-out s h top5) (settled-locks s)
+        by (inl s) = rw (settled-out s h (P .top-high)) (settled-locks s)
         by (inr M) = made-locks (all-up M h (omega arith) free)

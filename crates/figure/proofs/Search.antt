@@ -63,6 +63,30 @@ pub hops-hop : (bound : ℕ) (m : Memory) (p k l : ℕ) → T (not (leb k (keyOf
 unfolding hops
 hops-hop bound m p k l t = if-no (leb k (keyOf m (next (m .nodes) l p))) _ _ t
 
+-- ---- findAll
+
+module _ (m : Memory) (k : ℕ) where
+  -- at its last level it is find
+  pub all-here : (bound p l : ℕ) → findAll bound m p k l l ≡ find bound m p k l
+  unfolding findAll
+  all-here bound p zero = refl
+  all-here bound p (suc l) = if-yes (eqb (suc l) (suc l)) _ _ (eq→eqb (suc l) (suc l) refl)
+
+  pub all-down : (bound p l d : ℕ) → d ≤ l → findAll bound m p k (suc l) d ≡ findAll bound m (find bound m p k (suc l) .pred) k l d
+  unfolding findAll
+  all-down bound p l d le = if-no (eqb (suc l) d) _ _ (ne→neqb (suc l) d (omega arith))
+
+  -- one level lower it goes on from where it stopped
+  pub all-next : (bound p l d : ℕ) → d < l → findAll bound m p k l d ≡ find bound m (findAll bound m p k l (suc d) .pred) k d
+  all-next bound p zero d lt = absurd (omega arith)
+  all-next bound p (suc l) d lt = by-eq d l
+      (λ e. rw e (all-down bound p l l (omega arith) ∙ all-here bound (find bound m p k (suc l) .pred) l
+      ∙ ap (λ (r : Pair). find bound m (r .pred) k l) (sym (all-here bound p (suc l)))))
+      (λ ne. all-down bound p l d (omega arith) ∙ all-next bound (find bound m p k (suc l) .pred) l d (omega arith)
+      ∙ ap (λ (r : Pair). find bound m (r .pred) k d) (sym (all-down bound p l (suc d) (omega arith))))
+
+-- ---- what they find
+
 -- the last node before k on level l, and its successor; `steps` hops from p
 pub record Finds (m : Memory) (g : Ghost) (k l : ℕ) (r : Pair) : Type 0 where
   pub spot : At m g l (r .pred) k
@@ -77,7 +101,10 @@ between m k p x = ltb (key (m .nodes) p) (key (m .nodes) x) && ltb (key (m .node
 abbrev pub left : Memory → (k p : ℕ) → ℕ
 left m k p = count (between m k p) (m .counts .nodes)
 
-module _ (m : Memory) (g : Ghost) (N : Nodes m g) (k : ℕ) (k-max : k < MAX) where
+pub left-most : (m : Memory) (k p : ℕ) → left m k p ≤ m .counts .nodes
+left-most m k p = count-most (between m k p) (m .counts .nodes)
+
+module _ {m : Memory} {g : Ghost} (N : Nodes m g) {k : ℕ} (k-max : k < MAX) where
   between→ : (p x : ℕ) → T (between m k p x) → (key (m .nodes) p < key (m .nodes) x) × (key (m .nodes) x < k)
   between→ p x t =
       let q = and→ (ltb (key (m .nodes) p) (key (m .nodes) x)) (ltb (key (m .nodes) x) k) t in
@@ -86,9 +113,6 @@ module _ (m : Memory) (g : Ghost) (N : Nodes m g) (k : ℕ) (k-max : k < MAX) wh
   →between : (p x : ℕ) → key (m .nodes) p < key (m .nodes) x → key (m .nodes) x < k → T (between m k p x)
   →between p x a b =
       →and (ltb (key (m .nodes) p) (key (m .nodes) x)) (ltb (key (m .nodes) x) k) (lt→ltb (key (m .nodes) p) (key (m .nodes) x) a) (lt→ltb (key (m .nodes) x) k b)
-
-  pub left-most : (p : ℕ) → left m k p ≤ m .counts .nodes
-  left-most p = count-most (between m k p) (m .counts .nodes)
 
   -- the link of a node of the level leads to one in use
   pub link-used : {l p : ℕ} → At m g l p k → next (m .nodes) l p ≢ 0 → next (m .nodes) l p ≤ m .counts .nodes
@@ -165,45 +189,24 @@ module _ (m : Memory) (g : Ghost) (N : Nodes m g) (k : ℕ) (k-max : k < MAX) wh
           let e = f c (omega (arith, o .fewer)) in
           (find-hop c m p k l t ∙ e .0, hops-hop c m p k l t ∙ ap suc (e .1))
 
-  -- ---- findAll
-
-  -- at its last level it is find
-  pub all-here : (bound p l : ℕ) → findAll bound m p k l l ≡ find bound m p k l
-  unfolding findAll
-  all-here bound p zero = refl
-  all-here bound p (suc l) = if-yes (eqb (suc l) (suc l)) _ _ (eq→eqb (suc l) (suc l) refl)
-
-  pub all-down : (bound p l d : ℕ) → d ≤ l → findAll bound m p k (suc l) d ≡ findAll bound m (find bound m p k (suc l) .pred) k l d
-  unfolding findAll
-  all-down bound p l d le = if-no (eqb (suc l) d) _ _ (ne→neqb (suc l) d (omega arith))
-
-  -- one level lower it goes on from where it stopped
-  pub all-next : (bound p l d : ℕ) → d < l → findAll bound m p k l d ≡ find bound m (findAll bound m p k l (suc d) .pred) k d
-  all-next bound p zero d lt = absurd (omega arith)
-  all-next bound p (suc l) d lt = by-eq d l
-      (λ e. rw e (all-down bound p l l (omega arith) ∙ all-here bound (find bound m p k (suc l) .pred) l
-      ∙ ap (λ (r : Pair). find bound m (r .pred) k l) (sym (all-here bound p (suc l)))))
-      (λ ne. all-down bound p l d (omega arith) ∙ all-next bound (find bound m p k (suc l) .pred) l d (omega arith)
-      ∙ ap (λ (r : Pair). find bound m (r .pred) k d) (sym (all-down bound p l (suc d) (omega arith))))
-
   module _ (bound : ℕ) (enough : m .counts .nodes ≤ bound) where
     pub finds : {l p : ℕ} → At m g l p k → Finds m g k l (find bound m p k l)
-    finds {l} {p} a = find-finds bound l p (omega (arith, left-most p)) a
+    finds {l} {p} a = find-finds bound l p (omega (arith, left-most m k p)) a
 
     pub all-finds : (l p d : ℕ) → d ≤ l → At m g l p k → Finds m g k d (findAll bound m p k l d)
-    all-finds zero p d le a = let e : d ≡ 0 = omega arith in rw (e, all-here bound p 0) (finds a)
+    all-finds zero p d le a = let e : d ≡ 0 = omega arith in rw (e, all-here m k bound p 0) (finds a)
     all-finds (suc l) p d le a = by-eq d (suc l)
-        (λ e. rw (e, all-here bound p (suc l)) (finds a))
-        (λ ne. rw (all-down bound p l d (omega arith))
+        (λ e. rw (e, all-here m k bound p (suc l)) (finds a))
+        (λ ne. rw (all-down m k bound p l d (omega arith))
         (all-finds l (find bound m p k (suc l) .pred) d (omega arith) (lower (finds a .spot))))
 
     -- the hops of all levels pass each node at most once
     pub down-few : (l p : ℕ) → At m g l p k → hopsDown bound m p k l ≤ left m k p
     unfolding hopsDown
-    down-few zero p a = omega (arith, hops-few bound 0 p (omega (arith, left-most p)) a)
+    down-few zero p a = omega (arith, hops-few bound 0 p (omega (arith, left-most m k p)) a)
     down-few (suc l) p a =
         let q = find bound m p k (suc l) .pred in
-        omega (arith, hops-few bound (suc l) p (omega (arith, left-most p)) a, down-few l q (lower (finds a .spot)))
+        omega (arith, hops-few bound (suc l) p (omega (arith, left-most m k p)) a, down-few l q (lower (finds a .spot)))
 
   -- no more than have a smaller key
   pub left-smaller : left m k head ≤ smaller m k

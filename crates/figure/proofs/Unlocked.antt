@@ -10,10 +10,11 @@ use Rattle.model.specs.Calls.{Store, standing, topOf}
 use Rattle.model.proofs.Tests.{by-le}
 use Rattle.model.proofs.Laws.{top-at-most}
 use Rattle.model.proofs.Live.{slot, status-is}
-use Rattle.figure.specs.Types.{Kind, Idle, Put, Get, Call, Process, Status}
+use Rattle.figure.specs.Types.{Kind, Idle, Put, Get, Process, Status}
 use Rattle.figure.specs.Figure.{HMAX, MAX, head, put}
 use Rattle.figure.specs.Alone.{memoryIn, Resting, RestUnlocks, UnlockedFrees, PutUnlocks}
 use Rattle.figure.proofs.Search.{at-head, all-finds}
+use Rattle.figure.proofs.Walking.{asked-put}
 use Rattle.figure.proofs.Putting.{put-locks}
 use Rattle.figure.proofs.Called.{Lives, reached-lives}
 
@@ -48,17 +49,13 @@ unlocked-frees w reached free bound enough k h lawful h5 l le =
     let r = key-range k lawful in
     let m = memoryIn w in
     let N = lives .live .core .nodes in
-    let f = all-finds m (lives .live .g) N k (r .1) bound (omega arith) HMAX head l (omega arith) (at-head m (lives .live .g) N k (r .1) (r .0)) in
+    let f = all-finds N (r .1) bound (omega arith) HMAX head l (omega arith) (at-head N (r .1) (r .0)) in
     free l _ (omega arith) (f .spot .used)
 
 pub put-unlocks : PutUnlocks
 unfolding put
 put-unlocks w reached free bound enough i k v t draw lawful l x l5 hx =
-    let lives = reached-lives reached in
-    let r = key-range k lawful in
-    let m = memoryIn w in
-    let c = lives .live .core in
-    let call : Call = record { kind = Put; key = k; value = v; timestamp = t; top = topOf draw; start = 0 } in
-    let kept = put-locks m (lives .live .g) (lives .live .b) (c .nodes) (c .book) call refl (r .0) (r .1) (top-at-most draw) bound enough i 0
-    (unlocked-frees w reached free bound enough k (topOf draw) lawful (top-at-most draw)) l x l5 in
-    by-le x (m .counts .nodes) (λ le. kept .0 le ∙ free l x l5 le) (λ lt. kept .1 lt hx)
+    let c = reached-lives reached .live .core in
+    let frees = unlocked-frees w reached free bound enough k (topOf draw) lawful (top-at-most draw) in
+    let kept = put-locks (c .nodes) (c .book) (asked-put k v t draw 0 (key-range k lawful)) bound enough i 0 frees l x l5 in
+    by-le x (w .state .counts .nodes) (λ le. kept .0 le ∙ free l x l5 le) (λ lt. kept .1 lt hx)

@@ -11,11 +11,12 @@ use lib.ListN.{length, getD, set, length-set}
 use lib.Seq.{getD-set-same, getD-set-other}
 use Rattle.model.specs.Layout.{Memory, topLevel, key, next}
 use Rattle.model.specs.Phases.{moved, at, ahead, descend, walkBy, walkOf, lawfulAt, lawfulProcess, phaseOf, turnOf}
-use Rattle.model.specs.Calls.{processAfter}
+use Rattle.model.specs.Calls.{topOf, processAfter}
 use Rattle.model.proofs.Tests.{if-yes, if-no, by-eq, by-test, →and, eq→eqb, ne→neqb}
+use Rattle.model.proofs.Laws.{top-at-most}
 use Rattle.model.proofs.Invariant.{Ghost, Nodes, At}
 use Rattle.figure.specs.Types.{Kind, Idle, Put, Get, Phase, Walk, Answer, None, Call, Process, Ahead, Less, Equal, Past, Note}
-use Rattle.figure.specs.Figure.{MAX, keyOf, Pair, find, findAll}
+use Rattle.figure.specs.Figure.{HMAX, MAX, keyOf, Pair, find, findAll}
 use Rattle.figure.specs.Steps.{hops, hopsDown}
 use Rattle.figure.proofs.Search.{key-below, key-from, key-same, key-other, left, left-most, link-used, level5, lower, along, finds, all-here, all-down}
 use Rattle.figure.proofs.Runs.{Place, at-place, Run, run-none, run-one, run-on, run-same}
@@ -61,7 +62,32 @@ module _ (m : Memory) (k : ℕ) (k-max : k < MAX) (l p : ℕ) (used : next (m .n
   ahead-stop P t equal past = by-test (eqb k (keyOf m y))
       (λ u. subst P (sym (ahead-equal u)) equal) (λ u. subst P (sym (ahead-past t u)) past)
 
--- ---- a process on its way
+-- ---- a call on its way
+
+-- a call of this kind, as an accepted start has it
+pub record Asked (kind : Kind) (call : Call) : Type 0 where
+  pub kind-is : call .kind ≡ kind
+  pub key-low : 1 ≤ call .key
+  pub key-high : call .key < MAX
+  pub top-high : call .top ≤ HMAX
+
+pub put≢idle : Put ≢ Idle
+put≢idle e = let z : _≡_ {A = ℕ} 0 1 = cc in omega arith
+
+pub get≢idle : Get ≢ Idle
+get≢idle e = let z : _≡_ {A = ℕ} 0 1 = cc in omega arith
+
+abbrev pub put-call : (k v t draw start : ℕ) → Call
+put-call k v t draw start = record { kind = Put; key = k; value = v; timestamp = t; top = topOf draw; start = start }
+
+abbrev pub get-call : (k start : ℕ) → Call
+get-call k start = record { kind = Get; key = k; value = 0; timestamp = 0; top = 0; start = start }
+
+pub asked-put : (k v t draw start : ℕ) → (1 ≤ k) × (k < MAX) → Asked Put (put-call k v t draw start)
+asked-put k v t draw start range = record { kind-is = refl; key-low = range .0; key-high = range .1; top-high = top-at-most draw }
+
+pub asked-get : (k start : ℕ) → (1 ≤ k) × (k < MAX) → Asked Get (get-call k start)
+asked-get k start range = record { kind-is = refl; key-low = range .0; key-high = range .1; top-high = omega arith }
 
 abbrev pub pose : Call → Phase → (l p : ℕ) → (preds : List ℕ) → (made : ℕ) → Answer → (tick : ℕ) → Process
 pose call phase l p preds made a tick = record {
@@ -96,7 +122,7 @@ lawful-walk Get busy = tt
 
 -- ---- the walk
 
-module _ (m : Memory) (g : Ghost) (N : Nodes m g) (call : Call) (busy : call .kind ≢ Idle) (k-max : call .key < MAX) (i : ℕ) where
+module _ {m : Memory} {g : Ghost} (N : Nodes m g) {kind : Kind} {call : Call} (P : Asked kind call) (busy : kind ≢ Idle) (i : ℕ) where
   abbrev k : ℕ
   k = call .key
 
@@ -111,7 +137,7 @@ module _ (m : Memory) (g : Ghost) (N : Nodes m g) (call : Call) (busy : call .ki
       ≡ moved m (walkBy call (before call Walk l p preds .cursor) tick (ahead m l p k))
   unfolding phaseOf walkOf
   walk-turn tick l p preds a =
-      turn-is (i + 1) tick (before call Walk l p preds) m (level5 m g N k k-max a) (a .used) (lawful-walk (call .kind) busy)
+      turn-is (i + 1) tick (before call Walk l p preds) m (level5 N (P .key-high) a) (a .used) (lawful-walk (call .kind) (λ e. busy (sym (P .kind-is) ∙ e)))
 
   walk-hop : (tick l p : ℕ) (preds : List ℕ) → At m g l p k → T (not (leb k (keyOf m (link l p))))
       → Run i tick 1 (walks l p preds) (walks l (link l p) preds)
@@ -119,12 +145,12 @@ module _ (m : Memory) (g : Ghost) (N : Nodes m g) (call : Call) (busy : call .ki
   walk-hop tick l p preds a t =
       let c = before call Walk l p preds .cursor in
       run-one (walk-turn tick l p preds a
-      ∙ ap (λ q. moved m (walkBy call c tick q)) (ahead-less m k k-max l p (link-used m g N k k-max a) t)) tt
+      ∙ ap (λ q. moved m (walkBy call c tick q)) (ahead-less m k (P .key-high) l p (link-used N (P .key-high) a) t)) tt
 
   -- along a level: a step for each hop of find
   walk-along : (bound l p : ℕ) (preds : List ℕ) → left m k p ≤ bound → At m g l p k → (tick : ℕ)
       → Run i tick (hops bound m p k l) (walks l p preds) (walks l (find bound m p k l .pred) preds)
-  walk-along bound l p preds = along m g N k k-max l
+  walk-along bound l p preds = along N (P .key-high) l
       (λ p r n. (tick : ℕ) → Run i tick n (walks l p preds) (walks l (r .pred) preds))
       (λ p a t tick. run-none)
       (λ p r n a t h go tick. run-same (omega arith) (run-on (walk-hop tick l p preds a t) (go (tick + 1))))
@@ -137,7 +163,7 @@ module _ (m : Memory) (g : Ghost) (N : Nodes m g) (call : Call) (busy : call .ki
   walk-end tick l p preds a t =
       let c = before call Walk (suc l) p preds .cursor in
       run-one (walk-turn tick (suc l) p preds a
-      ∙ ahead-stop m k k-max (suc l) p (link-used m g N k k-max a)
+      ∙ ahead-stop m k (P .key-high) (suc l) p (link-used N (P .key-high) a)
       (λ q. moved m (walkBy call c tick q) ≡ moved m (Note (at c Walk l p))) t (down (link (suc l) p)) (down 0)) tt
     where
       down : (found : ℕ) → moved m (descend call (before call Walk (suc l) p preds .cursor) tick found)
@@ -160,25 +186,25 @@ module _ (m : Memory) (g : Ghost) (N : Nodes m g) (call : Call) (busy : call .ki
   unfolding hopsDown
   walk-down bound enough zero p tick preds long a = record {
     preds′ = preds;
-    run = rw (all-here m g N k k-max bound p 0) (run-same (omega arith) (walk-along bound 0 p preds (omega (arith, left-most m g N k k-max p)) a tick));
+    run = rw (all-here m k bound p 0) (run-same (omega arith) (walk-along bound 0 p preds (omega (arith, left-most m k p)) a tick));
     six = refl;
     known = λ j j1 j0. absurd (omega arith);
     kept = λ j h. refl;
   }
   walk-down bound enough (suc l) p tick preds long a =
       let q = find bound m p k (suc l) .pred in
-      let f = finds m g N k k-max bound enough a in
+      let f = finds N (P .key-high) bound enough a in
       let stop : T (leb k (keyOf m (link (suc l) q))) = rw (f .succ-is) at (f .stop) in
-      let first = walk-along bound (suc l) p preds (omega (arith, left-most m g N k k-max p)) a tick in
+      let first = walk-along bound (suc l) p preds (omega (arith, left-most m k p)) a tick in
       let h = hops bound m p k (suc l) in
-      let rest = walk-down bound enough l q (tick + (h + 1)) (set preds (suc l) q) (omega (arith, length-set preds (suc l) q)) (lower m g N k k-max (f .spot)) in
-      let down : (d : ℕ) → d ≤ l → findAll bound m p k (suc l) d ≡ findAll bound m q k l d = all-down m g N k k-max bound p l in
+      let rest = walk-down bound enough l q (tick + (h + 1)) (set preds (suc l) q) (omega (arith, length-set preds (suc l) q)) (lower N (P .key-high) (f .spot)) in
+      let down : (d : ℕ) → d ≤ l → findAll bound m p k (suc l) d ≡ findAll bound m q k l d = all-down m k bound p l in
       record {
         preds′ = rest .preds′;
         run = rw (down 0 (omega arith)) (run-same (omega arith) (run-on (run-on first (walk-end (tick + h) l q preds (f .spot) stop)) (rest .run)));
         six = rest .six ∙ length-set preds (suc l) q;
         known = λ j j1 jl. by-eq j (suc l)
-            (λ e. rw (e, all-here m g N k k-max bound p (suc l)) (rest .kept (suc l) (omega arith) ∙ getD-set-same preds (suc l) q 0 long))
+            (λ e. rw (e, all-here m k bound p (suc l)) (rest .kept (suc l) (omega arith) ∙ getD-set-same preds (suc l) q 0 long))
             (λ ne. rest .known j j1 (omega arith) ∙ ap (λ (r : Pair). r .pred) (sym (down j (omega arith))));
         kept = λ j h. rest .kept j (omega arith) ∙ getD-set-other preds (suc l) j q 0 (omega arith);
       }
