@@ -100,21 +100,25 @@ module _ {m : Memory} {g : Ghost} {b : Map} (N : Nodes m g) (B : Book m b) {call
       let down : (found : ℕ) → moved m (walked (call .kind) call c tick found) ≡ moved m (Note (here Seek .cursor)) =
       λ found. ap (λ kind. moved m (walked kind call c tick found)) (P .kind-is) in
       run-one (walk-turn N P put≢idle i tick 0 q preds (f .spot)
-      ∙ ahead-stop m k (P .key-high) 0 q (R .linked) (λ x. moved m (walkBy call c tick x) ≡ moved m (Note (here Seek .cursor))) (R .stop)
+      ∙ ahead-stop m k (P .key-high) 0 q (R .linked) (λ x. moved m (walkBy call c tick x) ≡ moved m (Note (here Seek .cursor)))
+      (R .stop)
       (down (next (m .nodes) 0 q)) (down 0)) tt
 
-  to-here : (tick : ℕ) → lock (m .nodes) 0 q ≡ 0 → Run i tick 3 (at-place (before call Walk 0 q preds) m) (at-place (here Check) m₁)
+  to-here : (tick : ℕ) → lock (m .nodes) 0 q ≡ 0
+      → Run i tick 3 (at-place (before call Walk 0 q preds) m) (at-place (here Check) m₁)
   to-here tick free = run-on (walk-on tick) (to-check P i 0 None 0 tt R preds₀ (tick + 1) free)
 
   R₁ : Ready m₁ k 0 q
   R₁ = held-ready P i 0 None 0 tt R preds₀
 
-  second-look : (tick : ℕ) (x : Ahead) → ahead m₁ 0 q k ≡ x → turnOf (i + 1) tick (here Check) m₁ ≡ checkBy (here Check .cursor) m₁ x
+  second-look : (tick : ℕ) (x : Ahead) → ahead m₁ 0 q k ≡ x
+      → turnOf (i + 1) tick (here Check) m₁ ≡ checkBy (here Check .cursor) m₁ x
   second-look = check-turn P i 0 None 0 tt R preds₀
 
   -- ---- the figure's outcome
 
-  pub try-is : (bound : ℕ) → 1 ≤ bound → tryInsert alone i bound m q k (call .value) (call .timestamp) (call .top) ≡ closed q (done m call i q)
+  pub try-is : (bound : ℕ) → 1 ≤ bound
+      → tryInsert alone i bound m q k (call .value) (call .timestamp) (call .top) ≡ closed q (done m call i q)
   unfolding tryInsert done
   try-is bound pos = ap after (find-lock P i 0 None 0 tt R preds₀ bound pos)
     where
@@ -128,9 +132,11 @@ module _ {m : Memory} {g : Ghost} {b : Map} (N : Nodes m g) (B : Book m b) {call
   abbrev u : Inserted
   u = update m₁ y (call .value) (call .timestamp)
 
-  updates : moved (u .memory) (committed (here Update .cursor) (made-of (u .node)) (u .answer)) ≡ updateNode call (here Update .cursor) y (newest (m₁ .nodes) y) m₁
+  updates : moved (u .memory) (committed (here Update .cursor) (made-of (u .node)) (u .answer))
+      ≡ updateNode call (here Update .cursor) y (newest (m₁ .nodes) y) m₁
   unfolding update updateNode addVersion
-  updates = by (ltb (call .timestamp) (timestamp (m₁ .versions) (newest (m₁ .nodes) y))) (leb (maxVersions m₁) (m .counts .versions))
+  updates = by (ltb (call .timestamp) (timestamp (m₁ .versions) (newest (m₁ .nodes) y)))
+      (leb (maxVersions m₁) (m .counts .versions))
     where
       by : (old full : Bool)
           → let o : Inserted = if old then record { memory = m₁; answer = TooOld; node = none }
@@ -146,7 +152,13 @@ module _ {m : Memory} {g : Ghost} {b : Map} (N : Nodes m g) (B : Book m b) {call
 
   -- memory is as it was when the lock was taken
   untouched : (a : Answer) → Plain a → Settles m i q (record { memory = m₁; answer = a; node = none })
-  untouched a p = record { node = refl; answer = p; same = refl; size = length-word (m .nodes) q 10 (i + 1); locks = λ l x l5. refl }
+  untouched a p = record {
+    node = refl;
+    answer = p;
+    same = refl;
+    size = length-word (m .nodes) q 10 (i + 1);
+    locks = λ l x l5. refl;
+  }
 
   update-settles : Settles m i q u
   unfolding update
@@ -159,10 +171,12 @@ module _ {m : Memory} {g : Ghost} {b : Map} (N : Nodes m g) (B : Book m b) {call
         answer = tt;
         same = refl;
         size = length-word (m₁ .nodes) y 1 (m .counts .versions + 1) ∙ length-word (m .nodes) q 10 (i + 1);
-        locks = λ l x l5. word-field (m₁ .nodes) y x 1 (10 + l) (m .counts .versions + 1) (omega arith) (omega arith) (omega arith);
+        locks = λ l x l5. word-field (m₁ .nodes) y x 1 (10 + l) (m .counts .versions + 1) (omega arith) (omega arith)
+            (omega arith);
       }))
 
-  update-turn : (tick : ℕ) → y ≢ 0 → turnOf (i + 1) tick (here Update) m₁ ≡ moved (u .memory) (committed (here Update .cursor) (made-of (u .node)) (u .answer))
+  update-turn : (tick : ℕ) → y ≢ 0
+      → turnOf (i + 1) tick (here Update) m₁ ≡ moved (u .memory) (committed (here Update .cursor) (made-of (u .node)) (u .answer))
   unfolding phaseOf updateOf updateAt
   update-turn tick ne =
       let used-y : y ≤ m .counts .nodes = R₁ .linked ne in
@@ -170,8 +184,10 @@ module _ {m : Memory} {g : Ghost} {b : Map} (N : Nodes m g) (B : Book m b) {call
       let x = newest (m₁ .nodes) y in
       let e : x ≡ newest (m .nodes) y = word-field (m .nodes) q y 10 1 (i + 1) (omega arith) (omega arith) (omega arith) in
       work-turn P i 0 None 0 tt m₁ Update 0 q preds₀ tt (omega arith) (R .used) tick
-      ∙ if-no (not (usedNode m₁ y)) _ _ (not-not (usedNode m₁ y) (within-T {low = 1} {high = m .counts .nodes} {n = y} (omega arith) used-y))
-      ∙ if-no (not (usedVersion m₁ x)) _ _ (not-not (usedVersion m₁ x) (within-T {low = 1} {high = m .counts .versions} {n = x} (omega arith) (omega arith)))
+      ∙ if-no (not (usedNode m₁ y)) _ _ (not-not (usedNode m₁ y)
+      (within-T {low = 1} {high = m .counts .nodes} {n = y} (omega arith) used-y))
+      ∙ if-no (not (usedVersion m₁ x)) _ _ (not-not (usedVersion m₁ x)
+      (within-T {low = 1} {high = m .counts .versions} {n = x} (omega arith) (omega arith)))
       ∙ sym updates
 
   -- ---- make
@@ -180,18 +196,19 @@ module _ {m : Memory} {g : Ghost} {b : Map} (N : Nodes m g) (B : Book m b) {call
   c = createAndLink m₁ q k (call .value) (call .timestamp) (call .top)
 
   -- the node that make writes is the figure's, created and linked
-  abbrev c′ : (keys versions : Bool) → Inserted
-  c′ keys versions = if keys then record { memory = m₁; answer = KeysFull; node = none }
+  abbrev c′ : (keys versions : Bool) → Memory → Inserted
+  c′ keys versions made = if keys then record { memory = m₁; answer = KeysFull; node = none }
       else if versions then record { memory = m₁; answer = VersionsFull; node = none }
-      else record { memory = addNode call (here Make .cursor) m₁; answer = New; node = some (m .counts .nodes + 1) }
+      else record { memory = made; answer = New; node = some (m .counts .nodes + 1) }
 
-  create-is : c ≡ c′ (leb (maxNodes m₁) (m .counts .nodes)) (leb (maxVersions m₁) (m .counts .versions))
+  create-is : c
+      ≡ c′ (leb (maxNodes m₁) (m .counts .nodes)) (leb (maxVersions m₁) (m .counts .versions)) (addNode call (here Make .cursor) m₁)
   unfolding createAndLink
-  create-is = ap (λ (z : Memory). if leb (maxNodes m₁) (m .counts .nodes) then record { memory = m₁; answer = KeysFull; node = none }
-      else if leb (maxVersions m₁) (m .counts .versions) then record { memory = m₁; answer = VersionsFull; node = none }
-      else record { memory = z; answer = New; node = some (m .counts .nodes + 1) }) (make-is call (here Make .cursor) m₁ (R .used))
+  create-is = ap (c′ (leb (maxNodes m₁) (m .counts .nodes)) (leb (maxVersions m₁) (m .counts .versions)))
+      (make-is call (here Make .cursor) m₁ (R .used))
 
-  make-turn : (tick : ℕ) → turnOf (i + 1) tick (here Make) m₁ ≡ moved (c .memory) (committed (here Make .cursor) (made-of (c .node)) (c .answer))
+  make-turn : (tick : ℕ)
+      → turnOf (i + 1) tick (here Make) m₁ ≡ moved (c .memory) (committed (here Make .cursor) (made-of (c .node)) (c .answer))
   unfolding phaseOf makeOf
   make-turn tick =
       work-turn P i 0 None 0 tt m₁ Make 0 q preds₀ tt (omega arith) (R .used) tick
@@ -206,7 +223,7 @@ module _ {m : Memory} {g : Ghost} {b : Map} (N : Nodes m g) (B : Book m b) {call
           else if versions then moved m₁ (committed (here Make .cursor) 0 VersionsFull)
           else if high then moved m₁ Refuse
           else moved (addNode call (here Make .cursor) m₁) (committed (here Make .cursor) (m .counts .nodes + 1) New))
-          ≡ (let o = c′ keys versions in moved (o .memory) (committed (here Make .cursor) (made-of (o .node)) (o .answer)))
+          ≡ (let o = c′ keys versions (addNode call (here Make .cursor) m₁) in moved (o .memory) (committed (here Make .cursor) (made-of (o .node)) (o .answer)))
       by true versions high t = refl
       by false true high t = refl
       by false false true t = absurd t
@@ -221,7 +238,11 @@ module _ {m : Memory} {g : Ghost} {b : Map} (N : Nodes m g) (B : Book m b) {call
         node = refl;
         answer = refl;
         memory = refl;
-        room = omega (arith, nleb→lt (maxNodes m₁) (m .counts .nodes) t, ap (capacity nodeWords) (length-word (m .nodes) q 10 (i + 1)));
+        room = omega (
+          arith,
+          nleb→lt (maxNodes m₁) (m .counts .nodes) t,
+          ap (capacity nodeWords) (length-word (m .nodes) q 10 (i + 1)),
+        );
       }))))
     where
       Sorts : Inserted → Type 0
@@ -231,14 +252,16 @@ module _ {m : Memory} {g : Ghost} {b : Map} (N : Nodes m g) (B : Book m b) {call
 
   abbrev Bottomed : (tick : ℕ) → Inserted → Type 0
   Bottomed tick o =
-      Run i tick 5 (at-place (before call Walk 0 q preds) m) (at-place (pose call Release 0 q preds₀ (made-of (o .node)) (o .answer) (tick + 4)) (o .memory))
+      Run i tick 5 (at-place (before call Walk 0 q preds) m)
+      (at-place (pose call Release 0 q preds₀ (made-of (o .node)) (o .answer) (tick + 4)) (o .memory))
       × (Settles m i q o ⊎ Makes m call i q o)
 
   module _ (free : lock (m .nodes) 0 q ≡ 0) where
     by-update : (tick : ℕ) → T (eqb k (keyOf m₁ y)) → Bottomed tick u
     unfolding checkBy processAfter
     by-update tick t = (
-      run-on (run-on (to-here tick free) (run-one (second-look (tick + 3) (Equal y) (ahead-equal m₁ k (P .key-high) 0 q (R₁ .linked) t)) tt))
+      run-on (run-on (to-here tick free) (run-one
+          (second-look (tick + 3) (Equal y) (ahead-equal m₁ k (P .key-high) 0 q (R₁ .linked) t)) tt))
           (run-one (update-turn (tick + 4) (key-same m₁ k (P .key-high) y t .0)) tt),
       inl update-settles,
     )
@@ -246,7 +269,8 @@ module _ {m : Memory} {g : Ghost} {b : Map} (N : Nodes m g) (B : Book m b) {call
     by-make : (tick : ℕ) → T (not (eqb k (keyOf m₁ y))) → Bottomed tick c
     unfolding checkBy processAfter
     by-make tick t = (
-      run-on (run-on (to-here tick free) (run-one (second-look (tick + 3) Past (ahead-past m₁ k (P .key-high) 0 q (R₁ .linked) (R₁ .stop) t)) tt))
+      run-on (run-on (to-here tick free) (run-one
+          (second-look (tick + 3) Past (ahead-past m₁ k (P .key-high) 0 q (R₁ .linked) (R₁ .stop) t)) tt))
           (run-one (make-turn (tick + 4)) tt),
       make-sorts,
     )

@@ -29,7 +29,8 @@ pub turned-more : (w : Store) (i n : ℕ) → let before = turned w i n in let o
 unfolding turned
 turned-more w i zero = refl
 turned-more w i (suc n) =
-    ap (λ (r : Turned). record { outcomes = stepOf w i .outcome ∷ r .outcomes; store = r .store }) (turned-more (stepOf w i .store) i n)
+    ap (λ (r : Turned). record { outcomes = stepOf w i .outcome ∷ r .outcomes; store = r .store })
+    (turned-more (stepOf w i .store) i n)
 
 -- ---- an accepted start
 
@@ -43,7 +44,8 @@ pub record Accepted (w : Store) (i : ℕ) (call : Call) (start : ℕ) (begins : 
 started≢refused : {r : Refusal} {t : ℕ} → Starting.Refused r ≡ Starting.Started t → ⊥
 started≢refused e = let z : _≡_ {A = ℕ} 0 1 = cc in omega arith
 
-pub accepted : (w : Store) (i start : ℕ) (call : Call) (p : Permit) → startPermit (w .state) (w .nodes) (w .versions) i (call .key) ≡ p
+pub accepted : (w : Store) (i start : ℕ) (call : Call) (p : Permit)
+    → startPermit (w .state) (w .nodes) (w .versions) i (call .key) ≡ p
     → startBy p (w .state) i call .outcome ≡ Starting.Started start → Accepted w i call start (startBy p (w .state) i call)
 unfolding startBy startPermit
 accepted w i start call (Denied r) e o = absurd (started≢refused o)
@@ -92,8 +94,10 @@ module _ (w : Store) (i : ℕ) (call : Call) where
     pub here : slot w₁ i ≡ begun call
     here = getD-set-same (w .state .process) i (begun call) noProcess inside
 
-    module _ (m : Memory) (a : Answer) (v : Version) (e before : ℕ) (y : Place) (run : Run i (start + 1) before (at-place (begun call) (memory w)) y)
-        (ends : turnOf (i + 1) (start + suc before) (y .process) (y .memory) ≡ moved m (End a v e)) (time : start + suc before ≤ w .state .limit) where
+    module _ (m : Memory) (a : Answer) (v : Version) (e before : ℕ) (y : Place)
+        (run : Run i (start + 1) before (at-place (begun call) (memory w)) y)
+        (ends : turnOf (i + 1) (start + suc before) (y .process) (y .memory) ≡ moved m (End a v e))
+        (time : start + suc before ≤ w .state .limit) where
       abbrev w₂ : Store
       w₂ = later w₁ i before y
 
@@ -126,7 +130,10 @@ module _ (w : Store) (i : ℕ) (call : Call) where
       finishes-in : turned w₁ i (suc before) ≡ Finishes (suc before) m a v e
       finishes-in =
           turned-more w₁ i before
-          ∙ ap (λ (r : Turned). record { outcomes = r .outcomes ++ (stepOf (r .store) i .outcome ∷ []); store = stepOf (r .store) i .store }) (turns .turns)
+          ∙ ap (λ (r : Turned). record {
+            outcomes = r .outcomes ++ (stepOf (r .store) i .outcome ∷ []);
+            store = stepOf (r .store) i .store;
+          }) (turns .turns)
           ∙ ap (λ (o : Stepped). record { outcomes = moves (start + 1) before ++ (o .outcome ∷ []); store = o .store })
           (step-ends (turns .live) i below (omega arith) m a v e ends-there)
           ∙ ap (λ (c : Call). Says before (c .kind) (c .start) a v e (w₂ .state .events + 1) (rested w₂ i 1 m a)) same-call
@@ -138,7 +145,8 @@ module _ (w : Store) (i : ℕ) (call : Call) where
           less : (n : ℕ) → n ≡ suc n - 1
           less n = omega arith
 
-    pub finishes : (n : ℕ) (m : Memory) (a : Answer) (v : Version) (e : ℕ) → Ended i start n (at-place (begun call) (memory w)) m a v e
+    pub finishes : (n : ℕ) (m : Memory) (a : Answer) (v : Version) (e : ℕ)
+        → Ended i start n (at-place (begun call) (memory w)) m a v e
         → start + n ≤ w .state .limit → turned w₁ i n ≡ Finishes n m a v e
     finishes n m a v e E time =
         let q = E .steps-is in

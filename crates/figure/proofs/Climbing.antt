@@ -45,11 +45,13 @@ module _ {call : Call} (P : Asked Put call) (i : ℕ) (preds : List ℕ) (made e
   releases l q = pose call Release l q preds made New effect
 
   pub release-turn : (m : Memory) (l q tick : ℕ) → l ≤ 5 → q ≤ m .counts .nodes
-      → turnOf (i + 1) tick (releases l q) m ≡ freed (releases l q .cursor) m (rise call (releases l q .cursor) preds m (ended call New noVersion effect))
+      → turnOf (i + 1) tick (releases l q) m
+      ≡ freed (releases l q .cursor) m (rise call (releases l q .cursor) preds m (ended call New noVersion effect))
   unfolding phaseOf releaseOf released isNew placeOf lawfulAt fromPut
   release-turn m l q tick l5 used = turn-is (i + 1) tick (releases l q) m l5 used (rw (P .kind-is) tt)
 
-module _ {m : Memory} {g : Ghost} (N : Nodes m g) {call : Call} (P : Asked Put call) (i start effect : ℕ) (x : Place) (preds : List ℕ) where
+module _ {m : Memory} {g : Ghost} (N : Nodes m g) {call : Call} (P : Asked Put call) (i start effect : ℕ) (x : Place)
+    (preds : List ℕ) where
   abbrev k : ℕ
   k = call .key
 
@@ -65,7 +67,8 @@ module _ {m : Memory} {g : Ghost} (N : Nodes m g) {call : Call} (P : Asked Put c
     pub out-is : out ≡ record { memory = release held q l; answer = New; node = some made }
     pub risen : Risen m (release held q l) k l
 
-  module _ (bound : ℕ) (pos : 1 ≤ bound) (steps l q : ℕ) {r : Pair} (out : Inserted) (C : Climbed steps l q out) (higher : suc l ≤ call .top)
+  module _ (bound : ℕ) (pos : 1 ≤ bound) (steps l q : ℕ) {r : Pair} (out : Inserted) (C : Climbed steps l q out)
+      (higher : suc l ≤ call .top)
       (f : Finds m g k (suc l) r) (known : getD preds (suc l) 0 ≡ r .pred) where
     abbrev L : ℕ
     L = suc l
@@ -105,7 +108,9 @@ module _ {m : Memory} {g : Ghost} (N : Nodes m g) {call : Call} (P : Asked Put c
     lawful = or-right (noEffect (record { answer = New; tick = effect })) (fromPut New) tt
 
     -- release, and up
-    pub rises : (tick : ℕ) → Run i tick 1 (at-place (releases P i preds made effect l q) (C .held)) (at-place (pose call Seek L p preds made New effect) M)
+    pub rises : (tick : ℕ)
+        → Run i tick 1 (at-place (releases P i preds made effect l q) (C .held))
+        (at-place (pose call Seek L p preds made New effect) M)
     unfolding rise freed processAfter
     rises tick =
         let h = C .held in
@@ -120,12 +125,16 @@ module _ {m : Memory} {g : Ghost} (N : Nodes m g) {call : Call} (P : Asked Put c
         run-one (release-turn P i preds made effect h l q tick (omega arith) (C .used) ∙ ap (λ v. freed c h v) up) tt
 
     -- seek
-    pub seeks : (tick : ℕ) → Run i tick 1 (at-place (pose call Seek L p preds made New effect) M) (at-place (pose call Lock L p preds made New effect) M)
+    pub seeks : (tick : ℕ)
+        → Run i tick 1 (at-place (pose call Seek L p preds made New effect) M)
+        (at-place (pose call Lock L p preds made New effect) M)
     seeks = seek-on P i made New effect lawful Q-M preds
 
     -- a lock that is held
-    pub waits : (tick : ℕ) → lock (m .nodes) L p ≢ 0 → turnOf (i + 1) tick (pose call Lock L p preds made New effect) M ≡ moved M Wait
-    waits tick taken = lock-waits P i made New effect lawful Q-M preds tick (λ e. taken (sym (R .locks L p (omega arith) (Q .used)) ∙ e))
+    pub waits : (tick : ℕ) → lock (m .nodes) L p ≢ 0
+        → turnOf (i + 1) tick (pose call Lock L p preds made New effect) M ≡ moved M Wait
+    waits tick taken = lock-waits P i made New effect lawful Q-M preds tick
+        (λ e. taken (sym (R .locks L p (omega arith) (Q .used)) ∙ e))
 
     -- seek and lock
     locks : (tick : ℕ) → lock (m .nodes) L p ≡ 0 → Run i tick 2 (at-place (S Seek) M) (at-place (S Check) M₁)
@@ -137,8 +146,10 @@ module _ {m : Memory} {g : Ghost} (N : Nodes m g) {call : Call} (P : Asked Put c
     checks tick =
         let H = held-ready P i made New effect lawful Q-M preds in
         let goal : Ahead → Type 0 = λ a. checkBy (S Check .cursor) M₁ a ≡ moved M₁ (Go (S Link .cursor)) in
-        let to-link : (bottom : Phase) → moved M₁ (Go (at (S Check .cursor) (if eqb L 0 then bottom else Link) L p)) ≡ moved M₁ (Go (S Link .cursor)) =
-        λ bottom. ap (λ ph. moved M₁ (Go (at (S Check .cursor) ph L p))) (if-no (eqb L 0) bottom Link (ne→neqb L 0 (omega arith))) in
+        let to-link : (bottom : Phase)
+        → moved M₁ (Go (at (S Check .cursor) (if eqb L 0 then bottom else Link) L p)) ≡ moved M₁ (Go (S Link .cursor)) =
+        λ bottom. ap (λ ph. moved M₁ (Go (at (S Check .cursor) ph L p)))
+        (if-no (eqb L 0) bottom Link (ne→neqb L 0 (omega arith))) in
         run-one (check-turn P i made New effect lawful Q-M preds tick (ahead M₁ L p k) refl
         ∙ ahead-stop M₁ k (P .key-high) L p (H .linked) goal (H .stop) (to-link Update) (to-link Make)) tt
 
@@ -149,12 +160,14 @@ module _ {m : Memory} {g : Ghost} (N : Nodes m g) {call : Call} (P : Asked Put c
     links : (tick : ℕ) → Run i tick 1 (at-place (S Link) M₁) (at-place (S Release) held′)
     unfolding phaseOf linkOf processAfter
     links tick = run-one (work-turn P i made New effect lawful M₁ Link L p preds tt (omega arith) (Q-M .used) tick
-        ∙ if-yes (usedNode M₁ made) _ _ (within-T {low = 1} {high = M .counts .nodes} {n = made} (omega arith) (omega (arith, R .nodes-is)))) tt
+        ∙ if-yes (usedNode M₁ made) _ _ (within-T {low = 1} {high = M .counts .nodes} {n = made} (omega arith)
+        (omega (arith, R .nodes-is)))) tt
 
     -- ---- the figure's insert
 
     own-free : lock (M₁ .nodes) L made ≡ 0
-    own-free = word-node (M .nodes) p made (10 + L) (10 + L) (i + 1) (omega arith) (omega arith) (omega (arith, Q .used)) ∙ R .own-locks L (omega arith)
+    own-free = word-node (M .nodes) p made (10 + L) (10 + L) (i + 1) (omega arith) (omega arith) (omega (arith, Q .used))
+        ∙ R .own-locks L (omega arith)
 
     insert-is : insert alone i bound M p L made ≡ release held′ p L
     unfolding insert
@@ -165,7 +178,8 @@ module _ {m : Memory} {g : Ghost} (N : Nodes m g) {call : Call} (P : Asked Put c
         after : Locked → Memory
         after r = release (link (r .memory) (r .pred) L made) (r .pred) L
 
-    above-is : insertAbove alone i bound out p L (out .node) ≡ record { memory = release held′ p L; answer = New; node = some made }
+    above-is : insertAbove alone i bound out p L (out .node)
+        ≡ record { memory = release held′ p L; answer = New; node = some made }
     unfolding insertAbove
     above-is = ap (λ (o : Inserted). insertAbove alone i bound o p L (o .node)) (C .out-is)
         ∙ ap (λ (z : Memory). record { memory = z; answer = New; node = some made }) insert-is
@@ -173,7 +187,8 @@ module _ {m : Memory} {g : Ghost} (N : Nodes m g) {call : Call} (P : Asked Put c
     pub climb : lock (m .nodes) L p ≡ 0 → Climbed (steps + 5) L p (insertAbove alone i bound out p L (out .node))
     climb free = record {
       held = held′;
-      run = run-same (omega arith) (run-on (C .run) (run-on (rises (start + 1 + steps)) (run-on (locks (start + 1 + steps + 1) free)
+      run = run-same (omega arith) (run-on (C .run)
+          (run-on (rises (start + 1 + steps)) (run-on (locks (start + 1 + steps + 1) free)
           (run-on (checks (start + 1 + steps + 1 + 2)) (links (start + 1 + steps + 1 + 2 + 1))))));
       used = unfold addLink in (Q-M .used);
       out-is = above-is;

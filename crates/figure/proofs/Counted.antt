@@ -40,7 +40,8 @@ unfolding get stepsAfter
 get-after bound m k = if-by (λ (r : Reply). stepsAfter (r .answer) 0 ≤ 1) (eqb k (keyOf m (findAll bound m head k HMAX 0 .succ)))
     (λ t. omega arith) (λ t. omega arith)
 
-module _ {m : Memory} {g : Ghost} (N : Nodes m g) (k : ℕ) (low : 1 ≤ k) (k-max : k < MAX) (bound : ℕ) (enough : m .counts .nodes < bound) where
+module _ {m : Memory} {g : Ghost} (N : Nodes m g) (k : ℕ) (low : 1 ≤ k) (k-max : k < MAX) (bound : ℕ)
+    (enough : m .counts .nodes < bound) where
   search-few : searchSteps bound m k ≤ smaller m k + 6
   unfolding searchSteps
   search-few = omega (arith, down-few N k-max bound (omega arith) HMAX head (at-head N k-max low), left-smaller N k-max)
@@ -86,7 +87,8 @@ unfolding putIn putBy versionsOf held
 new-put K W k v hK hW = ap (λ (r : PutResult). r .answer)
     (if-no (leb K 0) _ _ (beneath K 0 hK) ∙ if-no (leb W 0) _ _ (beneath W 0 hW))
 
-module _ {K W : ℕ} {m : Memory} (O : Ordered K W m []) (hK : 1 ≤ K) (hW : 1 ≤ W) (bound k : ℕ) (pos : 0 < bound) (lawful : lawfulKey k ≡ true) where
+module _ {K W : ℕ} {m : Memory} (O : Ordered K W m []) (hK : 1 ≤ K) (hW : 1 ≤ W) (bound k : ℕ) (pos : 0 < bound)
+    (lawful : lawfulKey k ≡ true) where
   no-nodes : m .counts .nodes ≡ 0
   no-nodes = sym (O .book .count)
 
@@ -107,7 +109,8 @@ module _ {K W : ℕ} {m : Memory} (O : Ordered K W m []) (hK : 1 ≤ K) (hW : 1 
 
   puts-new : (i v t draw : ℕ) → put alone i bound m k v t draw .answer ≡ New
   unfolding figureReply replyBy
-  puts-new i v t draw = ap (λ (r : Reply). r .answer) (does O bound (omega (arith, no-nodes)) (putting i k v t draw) lawful .replies)
+  puts-new i v t draw = ap (λ (r : Reply). r .answer)
+      (does O bound (omega (arith, no-nodes)) (putting i k v t draw) lawful .replies)
       ∙ new-put K W k (record { value = v; timestamp = t }) hK hW
 
   empty : Empty bound m k

@@ -36,10 +36,12 @@ module _ {m : Memory} {g : Ghost} {b : Map} (N : Nodes m g) (B : Book m b) {call
   f = all-finds N (P .key-high) bound enough HMAX head 0 (omega arith) (at-head N (P .key-high) (P .key-low))
 
   W : Walked N P get≢idle i bound (start + 1) HMAX head (replicate 6 0)
-  W = walk-down N P get≢idle i bound enough HMAX head (start + 1) (replicate 6 0) (omega arith) (at-head N (P .key-high) (P .key-low))
+  W = walk-down N P get≢idle i bound enough HMAX head (start + 1) (replicate 6 0) (omega arith)
+      (at-head N (P .key-high) (P .key-low))
 
   abbrev Goal : Reply → Type 0
-  Goal o = Ended i start (stepsOf bound m k (o .answer) 0) (at-place (begun call) m) m (o .answer) (o .version) (start + stepsOf bound m k (o .answer) 0)
+  Goal o = Ended i start (stepsOf bound m k (o .answer) 0) (at-place (begun call) m) m (o .answer) (o .version)
+      (start + stepsOf bound m k (o .answer) 0)
 
   abbrev here : Process
   here = before call Walk 0 (r .pred) (W .preds′)
@@ -56,10 +58,12 @@ module _ {m : Memory} {g : Ghost} {b : Map} (N : Nodes m g) (B : Book m b) {call
   used : y ≢ 0 → y ≤ m .counts .nodes
   used = link-used N (P .key-high) (f .spot)
 
-  gives-up : (tick : ℕ) → T (leb k (keyOf m y)) → T (not (eqb k (keyOf m y))) → turnOf (i + 1) tick here m ≡ moved m (End None noVersion tick)
+  gives-up : (tick : ℕ) → T (leb k (keyOf m y)) → T (not (eqb k (keyOf m y)))
+      → turnOf (i + 1) tick here m ≡ moved m (End None noVersion tick)
   unfolding walkBy descend walked
   gives-up tick t u =
-      bottom tick Past (ahead-past m k (P .key-high) 0 (r .pred) used t u) ∙ ap (λ kind. moved m (walked kind call (here .cursor) tick 0)) (P .kind-is)
+      bottom tick Past (ahead-past m k (P .key-high) 0 (r .pred) used t u)
+      ∙ ap (λ kind. moved m (walked kind call (here .cursor) tick 0)) (P .kind-is)
 
   none : T (leb k (keyOf m y)) → T (not (eqb k (keyOf m y))) → Goal (record { answer = None; version = noVersion })
   unfolding stepsOf searchSteps stepsAfter
@@ -80,7 +84,8 @@ module _ {m : Memory} {g : Ghost} {b : Map} (N : Nodes m g) (B : Book m b) {call
       ∙ ap (λ kind. moved m (walked kind call (here .cursor) tick y)) (P .kind-is)
       ∙ ap (moved m) (if-no (eqb y 0) _ _ (ne→neqb y 0 ne))) tt
 
-  reads : (tick : ℕ) → y ≢ 0 → turnOf (i + 1) tick there m ≡ moved m (End Found (versionAt (m .versions) (newest (m .nodes) y)) tick)
+  reads : (tick : ℕ) → y ≢ 0
+      → turnOf (i + 1) tick there m ≡ moved m (End Found (versionAt (m .versions) (newest (m .nodes) y)) tick)
   unfolding phaseOf readOf lawfulAt
   reads tick ne =
       let x = newest (m .nodes) y in

@@ -7,7 +7,7 @@ use lib.ListN.{length, replicate, length-replicate}
 use Rattle.model.specs.Layout.{Memory, nodeWords, versionWords, capacity, lock}
 use Rattle.model.specs.Map.{Map, putIn, answered, Reply}
 use Rattle.model.specs.State.{lawfulNodes, lawfulVersions}
-use Rattle.model.specs.Phases.{maxNodes, maxVersions}
+use Rattle.model.specs.Phases.{ownVersion, maxNodes, maxVersions}
 use Rattle.model.specs.Calls.{openOf, topOf, Store}
 use Rattle.model.specs.History.{Invoked, emptyHistory, putOperation, begin}
 use Rattle.model.specs.Linearizability.{fedBy, replyBy, replyOf, All}
@@ -23,7 +23,7 @@ use Rattle.figure.specs.Figure.{HMAX, MAX, head, alone, put}
 use Rattle.figure.specs.Alone.{memoryIn, Free, Unlocked}
 use Rattle.figure.specs.OneByOne.{Request, putting, getting, operationOf, figureReply, figureMemory, figureAll, ledgerAll, Lawful, FigureImplements}
 use Rattle.figure.proofs.Search.{at-head, all-finds}
-use Rattle.figure.proofs.Walking.{put≢idle, get≢idle, asked-put, asked-get}
+use Rattle.figure.proofs.Walking.{put-call, put≢idle, get≢idle, asked-put, asked-get}
 use Rattle.figure.proofs.Getting.{get-ends}
 use Rattle.figure.proofs.Putting.{put-ends, put-locks}
 use Rattle.figure.proofs.Ledger as L
@@ -54,7 +54,8 @@ module _ {K W : ℕ} {m : Memory} {b : Map} (O : Ordered K W m b) (bound : ℕ) 
 
   frees : (k h : ℕ) → (1 ≤ k) × (k < MAX) → h ≤ HMAX → Free bound m k h
   frees k h range h5 l le =
-      let f = all-finds (O .nodes) (range .1) bound (omega (arith, room)) HMAX head l (omega arith) (at-head (O .nodes) (range .1) (range .0)) in
+      let f = all-finds (O .nodes) (range .1) bound (omega (arith, room)) HMAX head l (omega arith)
+      (at-head (O .nodes) (range .1) (range .0)) in
       O .unlocked l _ (omega arith) (f .spot .used)
 
   puts : (i k v t draw : ℕ) → (1 ≤ k) × (k < MAX) → Does K W bound m b (putting i k v t draw)
@@ -66,17 +67,20 @@ module _ {K W : ℕ} {m : Memory} {b : Map} (O : Ordered K W m b) (bound : ℕ) 
       let E = put-ends (O .nodes) (O .book) P bound room i 0 free in
       let done = L.played (O .nodes) (O .book) P put≢idle i E in
       let locks = put-locks (O .nodes) (O .book) P bound room i 0 free in
-      let plays : putIn K W b k (record { value = v; timestamp = t }) ≡ answered (done .map) (o .answer) = rw (O .K-is, O .W-is) at (done .put refl) in
+      let plays : putIn K W b k (ownVersion (put-call k v t draw 0)) ≡ answered (done .map) (o .answer) =
+      rw (O .K-is, O .W-is) at (done .put refl) in
       record {
         replies = sym (put-reply K W b (done .map) (putOperation k v t) (o .answer) refl plays);
-        leaves = subst (λ (z : Map). Ordered K W (o .memory) z) (put-fed K W b (done .map) (putOperation k v t) (o .answer) refl plays) (record {
-          ghost = done .ghost;
-          nodes = done .nodes;
-          book = done .book;
-          unlocked = λ l x l5 hx. by-le x (m .counts .nodes) (λ le. locks l x l5 .0 le ∙ O .unlocked l x l5 le) (λ lt. locks l x l5 .1 lt hx);
-          K-is = ap (capacity nodeWords) (done .sized .nodes) ∙ O .K-is;
-          W-is = ap (capacity versionWords) (done .sized .versions) ∙ O .W-is;
-        });
+        leaves = subst (λ (z : Map). Ordered K W (o .memory) z)
+            (put-fed K W b (done .map) (putOperation k v t) (o .answer) refl plays) (record {
+              ghost = done .ghost;
+              nodes = done .nodes;
+              book = done .book;
+              unlocked = λ l x l5 hx. by-le x (m .counts .nodes) (λ le. locks l x l5 .0 le ∙ O .unlocked l x l5 le)
+                  (λ lt. locks l x l5 .1 lt hx);
+              K-is = ap (capacity nodeWords) (done .sized .nodes) ∙ O .K-is;
+              W-is = ap (capacity versionWords) (done .sized .versions) ∙ O .W-is;
+            });
       }
 
   pub does : (r : Request) → Lawful r → Does K W bound m b r
@@ -102,12 +106,15 @@ unfolding played
 no-effects K W b [] e q = q
 no-effects K W b (x ∷ es) e q = absurd (omega arith)
 
-pub opened-ordered : (nodes versions : List ℕ) (processes limit : ℕ) → openOf nodes versions processes limit .result .outcome ≡ Opening.Opened
-    → Ordered (capacity nodeWords (length nodes)) (capacity versionWords (length versions)) (memoryIn (begin (openOf nodes versions processes limit) processes limit .store)) []
+pub opened-ordered : (nodes versions : List ℕ) (processes limit : ℕ)
+    → openOf nodes versions processes limit .result .outcome ≡ Opening.Opened
+    → Ordered (capacity nodeWords (length nodes)) (capacity versionWords (length versions))
+    (memoryIn (begin (openOf nodes versions processes limit) processes limit .store)) []
 opened-ordered nodes versions processes limit opened = record {
   ghost = l .g;
   nodes = l .core .nodes;
-  book = subst (Book (memoryIn w)) (no-effects K W (l .b) (l .eff) (l .hist .one-each ∙ sym (l .hist .ticks)) (l .hist .book-is)) (l .core .book);
+  book = subst (Book (memoryIn w)) (no-effects K W (l .b) (l .eff) (l .hist .one-each ∙ sym (l .hist .ticks)) (l .hist .book-is))
+      (l .core .book);
   unlocked = λ x n l5 hx. free x n l5 hx (lock (w .nodes) x n) refl;
   K-is = l .hist .K-is;
   W-is = l .hist .W-is;
@@ -129,7 +136,8 @@ opened-ordered nodes versions processes limit opened = record {
     free : (x n : ℕ) → x ≤ HMAX → n ≤ w .state .counts .nodes → (v : ℕ) → lock (w .nodes) x n ≡ v → lock (w .nodes) x n ≡ 0
     free x n x5 hn zero e = e
     free x n x5 hn (suc j) e =
-        absurd (l .core .locks j x n (omega arith) hn e .kind (ap (λ (c : Invoked). c .operation .kind) (sym (l .hist .track j .same))))
+        absurd (l .core .locks j x n (omega arith) hn e .kind
+        (ap (λ (c : Invoked). c .operation .kind) (sym (l .hist .track j .same))))
 
 pub figure-implements : FigureImplements
 figure-implements n v lawful-n lawful-v started above unmade bound enough rs lawful =
@@ -138,5 +146,6 @@ figure-implements n v lawful-n lawful-v started above unmade bound enough rs law
     let en : length nodes ≡ n = length-replicate n 0 in
     let ev : length versions ≡ v = length-replicate v 0 in
     let opened = open-accepted nodes versions 1 1 (ap lawfulNodes en ∙ lawful-n) (ap lawfulVersions ev ∙ lawful-v) refl refl in
-    let fresh = rw (opens-new nodes versions 1 1 opened started above unmade, en, ev) at (opened-ordered nodes versions 1 1 opened) in
+    let fresh =
+    rw (opens-new nodes versions 1 1 opened started above unmade, en, ev) at (opened-ordered nodes versions 1 1 opened) in
     all-does bound enough rs fresh lawful

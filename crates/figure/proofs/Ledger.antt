@@ -37,7 +37,8 @@ puts m call b = putIn (maxNodes m) (maxVersions m) b (call .key) (ownVersion cal
 pub record Plays (m : Memory) (pr pr′ : Process) (b b′ : Map) : Type 0 where
   pub since : pr .effect .tick ≢ 0 → (b′ ≡ b) × (pr′ .effect ≡ pr .effect)
   pub until : pr .effect .tick ≡ 0
-      → ((b′ ≡ b) × (pr′ .effect .tick ≡ 0)) ⊎ ((pr′ .effect .tick ≢ 0) × (puts m (pr .call) b ≡ answered b′ (pr′ .effect .answer)))
+      → ((b′ ≡ b) × (pr′ .effect .tick ≡ 0))
+      ⊎ ((pr′ .effect .tick ≢ 0) × (puts m (pr .call) b ≡ answered b′ (pr′ .effect .answer)))
 
 pub record Kept (i : ℕ) (x y : Place) (b : Map) : Type 0 where
   pub map : Map
@@ -60,7 +61,8 @@ puts-same : {m m₁ : Memory} → Sized m m₁ → (call : Call) (b : Map) → p
 puts-same s call b = rw (s .nodes, s .versions)
 
 -- one step, then more
-plays-on : {m m₁ : Memory} {p p₁ p₂ : Process} {b b₁ b₂ : Map} → p₁ .call ≡ p .call → Sized m m₁ → Plays m p p₁ b b₁ → Plays m₁ p₁ p₂ b₁ b₂
+plays-on : {m m₁ : Memory} {p p₁ p₂ : Process} {b b₁ b₂ : Map} → p₁ .call ≡ p .call → Sized m m₁ → Plays m p p₁ b b₁
+    → Plays m₁ p₁ p₂ b₁ b₂
     → Plays m p p₂ b b₂
 plays-on {m} {m₁} {p} {p₁} {p₂} {b} {b₁} {b₂} same sized f g = record { since = since; until = until }
   where
@@ -70,27 +72,38 @@ plays-on {m} {m₁} {p} {p₁} {p₂} {b} {b₁} {b₂} same sized f g = record 
         let y = g .since (λ z. e (ap (λ (q : Effect). q .tick) (sym (x .1)) ∙ z)) in
         (y .0 ∙ x .0, y .1 ∙ x .1)
 
-    later : p .effect .tick ≡ 0 → ((b₂ ≡ b₁) × (p₂ .effect .tick ≡ 0)) ⊎ ((p₂ .effect .tick ≢ 0) × (puts m₁ (p₁ .call) b₁ ≡ answered b₂ (p₂ .effect .answer)))
-        → b₁ ≡ b → ((b₂ ≡ b) × (p₂ .effect .tick ≡ 0)) ⊎ ((p₂ .effect .tick ≢ 0) × (puts m (p .call) b ≡ answered b₂ (p₂ .effect .answer)))
+    later : p .effect .tick ≡ 0
+        → ((b₂ ≡ b₁) × (p₂ .effect .tick ≡ 0))
+        ⊎ ((p₂ .effect .tick ≢ 0) × (puts m₁ (p₁ .call) b₁ ≡ answered b₂ (p₂ .effect .answer)))
+        → b₁ ≡ b → ((b₂ ≡ b) × (p₂ .effect .tick ≡ 0))
+        ⊎ ((p₂ .effect .tick ≢ 0) × (puts m (p .call) b ≡ answered b₂ (p₂ .effect .answer)))
     later e (inl x) q = inl (x .0 ∙ q, x .1)
-    later e (inr x) q = inr (x .0, sym (puts-same sized (p .call) b) ∙ ap (λ (c : Call). puts m₁ c b) (sym same) ∙ ap (puts m₁ (p₁ .call)) (sym q) ∙ x .1)
+    later e (inr x) q = inr (
+      x .0,
+      sym (puts-same sized (p .call) b) ∙ ap (λ (c : Call). puts m₁ c b) (sym same)
+          ∙ ap (puts m₁ (p₁ .call)) (sym q) ∙ x .1,
+    )
 
-    until-by : p .effect .tick ≡ 0 → ((b₁ ≡ b) × (p₁ .effect .tick ≡ 0)) ⊎ ((p₁ .effect .tick ≢ 0) × (puts m (p .call) b ≡ answered b₁ (p₁ .effect .answer)))
+    until-by : p .effect .tick ≡ 0
+        → ((b₁ ≡ b) × (p₁ .effect .tick ≡ 0)) ⊎ ((p₁ .effect .tick ≢ 0) × (puts m (p .call) b ≡ answered b₁ (p₁ .effect .answer)))
         → ((b₂ ≡ b) × (p₂ .effect .tick ≡ 0)) ⊎ ((p₂ .effect .tick ≢ 0) × (puts m (p .call) b ≡ answered b₂ (p₂ .effect .answer)))
     until-by e (inl x) = later e (g .until (x .1)) (x .0)
     until-by e (inr x) =
         let y = g .since (x .0) in
         inr (
           (λ z. x .0 (ap (λ (q : Effect). q .tick) (sym (y .1)) ∙ z)),
-          x .1 ∙ ap (λ (z : Map). answered z (p₁ .effect .answer)) (sym (y .0)) ∙ ap (λ (q : Effect). answered b₂ (q .answer)) (sym (y .1)),
+          x .1 ∙ ap (λ (z : Map). answered z (p₁ .effect .answer)) (sym (y .0))
+              ∙ ap (λ (q : Effect). answered b₂ (q .answer)) (sym (y .1)),
         )
 
-    until : p .effect .tick ≡ 0 → ((b₂ ≡ b) × (p₂ .effect .tick ≡ 0)) ⊎ ((p₂ .effect .tick ≢ 0) × (puts m (p .call) b ≡ answered b₂ (p₂ .effect .answer)))
+    until : p .effect .tick ≡ 0
+        → ((b₂ ≡ b) × (p₂ .effect .tick ≡ 0)) ⊎ ((p₂ .effect .tick ≢ 0) × (puts m (p .call) b ≡ answered b₂ (p₂ .effect .answer)))
     until e = until-by e (f .until e)
 
 -- ---- a run of steps
 
-kept-goes : (i tick n : ℕ) (x y : Place) (b : Map) → tick ≢ 0 → x .process .call .kind ≢ Idle → Held i x b → Goes i tick n x y → Kept i x y b
+kept-goes : (i tick n : ℕ) (x y : Place) (b : Map) → tick ≢ 0 → x .process .call .kind ≢ Idle → Held i x b → Goes i tick n x y
+    → Kept i x y b
 kept-goes i tick zero x y b nz busy h go = subst (λ z. Kept i x z b) go (record {
   map = b;
   held = h;
@@ -101,7 +114,8 @@ kept-goes i tick (suc n) x y b nz busy h go =
     let m = x .memory in
     let pr = x .process in
     let v = stepped i tick x .move in
-    let G : Good m (h .ghost) i pr tick b v (stepped i tick x .memory) = turn-good m (h .ghost) i pr tick b (h .nodes) (h .book) nz (h .fits) busy in
+    let G : Good m (h .ghost) i pr tick b v (stepped i tick x .memory) =
+    turn-good m (h .ghost) i pr tick b (h .nodes) (h .book) nz (h .fits) busy in
     let same : processAfter tick pr v .call ≡ pr .call = after-call tick pr v (go .0) in
     let z = place-after i tick x in
     let rest = kept-goes i (suc tick) n z y (G .b′) (λ e. omega arith) (λ e. busy (ap (λ (c : Call). c .kind) (sym same) ∙ e))
@@ -126,13 +140,19 @@ pub record Played (m left : Memory) (call : Call) (b : Map) (a : Answer) (v : Ve
   pub got : call .kind ≡ Get → (map ≡ b) × (getFrom b (call .key) ≡ record { answer = a; version = v })
   pub put : call .kind ≡ Put → puts m call b ≡ answered map a
 
-module _ {m : Memory} {g : Ghost} {b : Map} (N : Nodes m g) (B : Book m b) {kind : Kind} {call : Call} (P : Asked kind call) (busy : kind ≢ Idle)
+module _ {m : Memory} {g : Ghost} {b : Map} (N : Nodes m g) (B : Book m b) {kind : Kind} {call : Call} (P : Asked kind call)
+    (busy : kind ≢ Idle)
     (i : ℕ) where
   has-call : call .kind ≢ Idle
   has-call e = busy (sym (P .kind-is) ∙ e)
 
   begun-placed : PlacedOf m g (begun call)
-  begun-placed = record { top5 = P .top-high; six = refl; spot = at 5 (omega arith); memo = λ j h. rw (filled {A = ℕ} 6 j 0) (at j h) }
+  begun-placed = record {
+    top5 = P .top-high;
+    six = refl;
+    spot = at 5 (omega arith);
+    memo = λ j h. rw (filled {A = ℕ} 6 j 0) (at j h);
+  }
     where
       at : (j : ℕ) → j < 6 → At m g j 0 (call .key)
       at j h = record { used = omega arith; up = omega (arith, N .head-high); low = omega (arith, N .head-key, P .key-low) }
@@ -142,7 +162,8 @@ module _ {m : Memory} {g : Ghost} {b : Map} (N : Nodes m g) (B : Book m b) {kind
   begun-fits Get e ne = record { kind = Get; phase = Walk; kind-is = e; phase-is = refl; ok = (begun-placed, (refl, refl)) }
   begun-fits Put e ne = record { kind = Put; phase = Walk; kind-is = e; phase-is = refl; ok = (begun-placed, (refl, refl)) }
 
-  module _ {start n : ℕ} {left : Memory} {a : Answer} {v : Version} {e : ℕ} (E : Ended i start n (at-place (begun call) m) left a v e) where
+  module _ {start n : ℕ} {left : Memory} {a : Answer} {v : Version} {e : ℕ}
+      (E : Ended i start n (at-place (begun call) m) left a v e) where
     abbrev last : Place
     last = E .last
 
@@ -156,7 +177,8 @@ module _ {m : Memory} {g : Ghost} {b : Map} (N : Nodes m g) (B : Book m b) {kind
     -- the last step
     good : Good (last .memory) (kept .held .ghost) i (last .process) (start + n) (kept .map) (End a v e) left
     good = subst (λ (r : Moved). Result (last .memory) (kept .held .ghost) i (last .process) (start + n) (kept .map) r) (E .ends)
-        (turn-good (last .memory) (kept .held .ghost) i (last .process) (start + n) (kept .map) (kept .held .nodes) (kept .held .book) (λ z. omega (arith, E .steps-is))
+        (turn-good (last .memory) (kept .held .ghost) i (last .process) (start + n) (kept .map) (kept .held .nodes)
+        (kept .held .book) (λ z. omega (arith, E .steps-is))
         (kept .held .fits) (λ z. has-call (ap (λ (c : Call). c .kind) (sym same) ∙ z)))
 
     -- as a get it found the map as it was; as a put it played the put
@@ -164,15 +186,21 @@ module _ {m : Memory} {g : Ghost} {b : Map} (N : Nodes m g) (B : Book m b) {kind
         → (kept .map ≡ b) × (getFrom b (call .key) ≡ record { answer = a; version = v })
     gets z q = by (kept .plays .until refl)
       where
-        by : ((kept .map ≡ b) × (last .process .effect .tick ≡ 0)) ⊎ ((last .process .effect .tick ≢ 0) × (puts m call b ≡ answered (kept .map) (last .process .effect .answer)))
+        by : ((kept .map ≡ b) × (last .process .effect .tick ≡ 0))
+            ⊎ ((last .process .effect .tick ≢ 0) × (puts m call b ≡ answered (kept .map) (last .process .effect .answer)))
             → (kept .map ≡ b) × (getFrom b (call .key) ≡ record { answer = a; version = v })
-        by (inl x) = (x .0, ap (λ (y : Map). getFrom y (call .key)) (sym (x .0)) ∙ ap (λ (c : Call). getFrom (kept .map) (c .key)) (sym same) ∙ q)
+        by (inl x) = (
+          x .0,
+          ap (λ (y : Map). getFrom y (call .key)) (sym (x .0))
+              ∙ ap (λ (c : Call). getFrom (kept .map) (c .key)) (sym same) ∙ q,
+        )
         by (inr x) = absurd (x .0 z)
 
     plays-put : (last .process .effect .tick ≢ 0) → a ≡ last .process .effect .answer → puts m call b ≡ answered (kept .map) a
     plays-put z q = by (kept .plays .until refl)
       where
-        by : ((kept .map ≡ b) × (last .process .effect .tick ≡ 0)) ⊎ ((last .process .effect .tick ≢ 0) × (puts m call b ≡ answered (kept .map) (last .process .effect .answer)))
+        by : ((kept .map ≡ b) × (last .process .effect .tick ≡ 0))
+            ⊎ ((last .process .effect .tick ≢ 0) × (puts m call b ≡ answered (kept .map) (last .process .effect .answer)))
             → puts m call b ≡ answered (kept .map) a
         by (inl x) = absurd (z (x .1))
         by (inr x) = x .1 ∙ ap (answered (kept .map)) (sym q)

@@ -132,6 +132,10 @@ module _ {K W : ℕ} {w : Store} {h : History} (l : Live K W w h) (i : ℕ) (bel
 
 -- ---- many steps
 
+-- a step, then n more
+abbrev pub then : (i n : ℕ) → Stepped → Turned
+then i n o = record { outcomes = o .outcome ∷ turned (o .store) i n .outcomes; store = turned (o .store) i n .store }
+
 later-on : (w : Store) (i a b : ℕ) (x y : Place) → later (later w i a x) i b y ≡ later w i (a + b) y
 later-on w i a b x y = rw (set-set (w .state .process) i (x .process) (y .process), add-assoc (w .state .events) a b)
 
@@ -171,7 +175,7 @@ lift {K} {W} i (suc n) {w} {h} l below time y go =
     let rest = lift i n l₁ below (omega arith) y (rw (add-one t, here) (go .1)) in
     let e : later w₁ i n y ≡ later w i (suc n) y = later-on w i 1 n x y ∙ ap (λ k. later w i k y) (one-more n) in
     record {
-      turns = ap (λ (o : Stepped). record { outcomes = o .outcome ∷ turned (o .store) i n .outcomes; store = turned (o .store) i n .store }) s
+      turns = ap (then i n) s
           ∙ ap (λ (r : Turned). record { outcomes = Stepping.Moved t ∷ r .outcomes; store = r .store }) (rest .turns)
           ∙ ap (λ (z : Store). record { outcomes = Stepping.Moved t ∷ moves (t + 1) n; store = z }) e;
       history = rest .history;

@@ -84,7 +84,8 @@ module _ {call : Call} (P : Asked Put call) (i made : ℕ) (a : Answer) (e : ℕ
     held = acquire alone i m q l
 
     next-held : next (held .nodes) l q ≡ next (m .nodes) l q
-    next-held = word-field (m .nodes) q q (10 + l) (4 + l) (i + 1) (omega (arith, R .level)) (omega (arith, R .level)) (omega arith)
+    next-held = word-field (m .nodes) q q (10 + l) (4 + l) (i + 1) (omega (arith, R .level)) (omega (arith, R .level))
+        (omega arith)
 
     key-held : (x : ℕ) → key (held .nodes) x ≡ key (m .nodes) x
     key-held x = word-field (m .nodes) q x (10 + l) 0 (i + 1) (omega (arith, R .level)) (omega arith) (omega arith)
@@ -101,7 +102,8 @@ module _ {call : Call} (P : Asked Put call) (i made : ℕ) (a : Answer) (e : ℕ
     pub seek-on : (tick : ℕ) → Run i tick 1 (at-place (stands Seek) m) (at-place (stands Lock) m)
     unfolding phaseOf seekOf seekBy processAfter
     seek-on tick = run-one (work-turn m Seek l q preds tt (R .level) (R .used) tick
-        ∙ ahead-stop m k (P .key-high) l q (R .linked) (λ x. moved m (seekBy (stands Seek .cursor) x) ≡ moved m (Go (stands Lock .cursor))) (R .stop) refl refl) tt
+        ∙ ahead-stop m k (P .key-high) l q (R .linked)
+        (λ x. moved m (seekBy (stands Seek .cursor) x) ≡ moved m (Go (stands Lock .cursor))) (R .stop) refl refl) tt
 
     lock-turn : (tick : ℕ) → turnOf (i + 1) tick (stands Lock) m ≡ lockOf (stands Lock .cursor) (i + 1) m
     unfolding phaseOf
@@ -109,7 +111,8 @@ module _ {call : Call} (P : Asked Put call) (i made : ℕ) (a : Answer) (e : ℕ
 
     lock-on : (tick : ℕ) → lock (m .nodes) l q ≡ 0 → Run i tick 1 (at-place (stands Lock) m) (at-place (stands Check) held)
     unfolding lockOf processAfter
-    lock-on tick free = run-one (lock-turn tick ∙ if-yes (eqb (lock (m .nodes) l q) 0) _ _ (eq→eqb (lock (m .nodes) l q) 0 free)) tt
+    lock-on tick free = run-one (lock-turn tick
+        ∙ if-yes (eqb (lock (m .nodes) l q) 0) _ _ (eq→eqb (lock (m .nodes) l q) 0 free)) tt
 
     -- a lock that is held
     pub lock-waits : (tick : ℕ) → lock (m .nodes) l q ≢ 0 → turnOf (i + 1) tick (stands Lock) m ≡ moved m Wait
@@ -123,7 +126,8 @@ module _ {call : Call} (P : Asked Put call) (i made : ℕ) (a : Answer) (e : ℕ
     pub check-turn : (tick : ℕ) (x : Ahead) → ahead held l q k ≡ x
         → turnOf (i + 1) tick (stands Check) held ≡ checkBy (stands Check .cursor) held x
     unfolding phaseOf checkOf
-    check-turn tick x z = work-turn held Check l q preds tt (R .level) (R .used) tick ∙ ap (λ o. checkBy (stands Check .cursor) held o) z
+    check-turn tick x z = work-turn held Check l q preds tt (R .level) (R .used) tick
+        ∙ ap (λ o. checkBy (stands Check .cursor) held o) z
 
     pub find-lock : (bound : ℕ) → 1 ≤ bound
         → findLock alone i bound m q k l ≡ record { memory = held; pred = q; succ = next (held .nodes) l q }

@@ -60,7 +60,8 @@ reached-on {w} r a =
       limit = r .limit;
       opened = r .opened;
       actions = r .actions ++ (a ∷ []);
-      left = ap (λ (z : Run). z .store) (all-more run (r .actions) a) ∙ acts (performAll run (r .actions)) a ∙ ap (λ (z : Store). acted z a) (r .left);
+      left = ap (λ (z : Run). z .store) (all-more run (r .actions) a) ∙ acts (performAll run (r .actions)) a
+          ∙ ap (λ (z : Store). acted z a) (r .left);
     }
 
 reached-turned : (i n : ℕ) {w : Store} → Reached w → Reached (turned w i n .store)
@@ -70,13 +71,21 @@ reached-turned i (suc n) r = reached-turned i n (reached-on r (step i))
 
 -- ---- a start that nothing speaks against
 
-module _ (w : Store) (lives : Lives w) (i k : ℕ) (below : i < w .state .processes) (lawful : lawfulKey k ≡ true) (idle : slot w i .call .kind ≡ Idle)
+module _ (w : Store) (lives : Lives w) (i k : ℕ) (below : i < w .state .processes) (lawful : lawfulKey k ≡ true)
+    (idle : slot w i .call .kind ≡ Idle)
     (time : w .state .events < w .state .limit) where
   may-start : startPermit (w .state) (w .nodes) (w .versions) i k ≡ Granted
   unfolding startPermit isIdle
-  may-start = rw (core-lawful (lives .live .core), not-le (w .state .processes) i below, lawful, idle, not-le (w .state .limit) (w .state .events) time)
+  may-start = rw (
+    core-lawful (lives .live .core),
+    not-le (w .state .processes) i below,
+    lawful,
+    idle,
+    not-le (w .state .limit) (w .state .events) time,
+  )
 
-  starts-put : (v t draw : ℕ) → startPutOf (w .state) (w .nodes) (w .versions) i k v t draw .outcome ≡ Starting.Started (w .state .events + 1)
+  starts-put : (v t draw : ℕ)
+      → startPutOf (w .state) (w .nodes) (w .versions) i k v t draw .outcome ≡ Starting.Started (w .state .events + 1)
   unfolding startPutOf startBy
   starts-put v t draw = rw may-start
 
@@ -98,7 +107,8 @@ pub record Called (bound : ℕ) (w : Store) (r : Request) : Type 0 where
   pub reached : Reached (storeDoes bound w r .store)
   pub tells : told (storeDoes bound w r .outcomes) ≡ figureReply bound (memoryIn w) r ∷ []
   pub left-is : storeDoes bound w r .store
-      ≡ rested w (processOf r) (figureSteps bound (memoryIn w) r + 1) (figureMemory bound (memoryIn w) r) (figureReply bound (memoryIn w) r .answer)
+      ≡ rested w (processOf r) (figureSteps bound (memoryIn w) r + 1) (figureMemory bound (memoryIn w) r)
+      (figureReply bound (memoryIn w) r .answer)
 
 module _ (w : Store) (reached : Reached w) (rest : Resting w) (bound : ℕ) (enough : w .state .counts .nodes < bound) where
   lives : Lives w
@@ -151,7 +161,8 @@ module _ (w : Store) (reached : Reached w) (rest : Resting w) (bound : ℕ) (eno
       idle = by-eq j i
           (λ e. rw e (ap (λ (p : Process). p .call .kind) (getD-set-same (w .state .process) i idleProcess noProcess
           (omega (arith, lives .live .core .array, lives .live .core .processes)))))
-          (λ ne. ap (λ (p : Process). p .call .kind) (getD-set-other (w .state .process) i j idleProcess noProcess ne) ∙ resting-idle lives rest j)
+          (λ ne. ap (λ (p : Process). p .call .kind) (getD-set-other (w .state .process) i j idleProcess noProcess ne)
+          ∙ resting-idle lives rest j)
 
   -- and its tables are as long
   same-room : (i n : ℕ) (m : Memory) (a : Answer) → Reached (rested w i n m a) → maxNodes m ≡ maxNodes (memoryIn w)
@@ -162,7 +173,8 @@ module _ (w : Store) (reached : Reached w) (rest : Resting w) (bound : ℕ) (eno
 folds : (bound : ℕ) (rs : List Request) (w : Store) → Reached w → Resting w → maxNodes (memoryIn w) < bound
     → All (λ r. Lawful r × (processOf r < w .state .processes)) rs
     → w .state .events + figureEvents bound (memoryIn w) rs ≤ w .state .limit
-    → (storeAll bound w rs ≡ figureAll bound (memoryIn w) rs) × (memoryIn (storeLeft bound w rs) ≡ figureLeft bound (memoryIn w) rs)
+    → (storeAll bound w rs ≡ figureAll bound (memoryIn w) rs)
+    × (memoryIn (storeLeft bound w rs) ≡ figureLeft bound (memoryIn w) rs)
 unfolding storeAll storeLeft figureAll figureLeft figureEvents
 folds bound [] w reached rest enough all time = (refl, refl)
 folds bound (r ∷ rs) w reached rest enough all time =
@@ -190,7 +202,8 @@ store-folds w reached rest bound enough rs = folds bound rs w reached rest enoug
 pub store-implements : StoreImplements
 store-implements nodes versions processes limit opened bound enough rs all time =
     let O = opened-ordered nodes versions processes limit opened in
-    folds bound rs w fresh rest (omega (arith, O .K-is)) (subst (λ n. All (λ r. Lawful r × (processOf r < n)) rs) (l .hist .processes-is) all)
+    folds bound rs w fresh rest (omega (arith, O .K-is))
+    (subst (λ n. All (λ r. Lawful r × (processOf r < n)) rs) (l .hist .processes-is) all)
     (omega (arith, l .hist .ticks, l .hist .limit-is)) .0
     ∙ all-does bound enough rs O (lawful rs all)
   where
@@ -213,7 +226,8 @@ store-implements nodes versions processes limit opened bound enough rs all time 
 
     rest : Resting w
     rest j lt = status-is (l .core) j lt
-        ∙ ap (λ kind. standing kind (slot w j)) (ap (λ (c : Invoked). c .operation .kind) (sym (l .hist .track j .same))) ∙ (unfold standing in refl)
+        ∙ ap (λ kind. standing kind (slot w j)) (ap (λ (c : Invoked). c .operation .kind) (sym (l .hist .track j .same)))
+        ∙ (unfold standing in refl)
 
     lawful : (rs : List Request) → All (λ r. Lawful r × (processOf r < processes)) rs → All Lawful rs
     lawful [] a = tt

@@ -39,9 +39,11 @@ sentinel a b c d e f = 0 ∷ 0 ∷ 5 ∷ 0 ∷ 0 ∷ 0 ∷ 0 ∷ 0 ∷ 0 ∷ 0 �
 
 -- each lock is made in its turn
 locks-by-one : (t : List ℕ) (x : ℕ)
-    → set (set (set (set (set (set (sets t 0 (sentinel x x x x x x)) 10 0) 11 0) 12 0) 13 0) 14 0) 15 0 ≡ sets t 0 (sentinel 0 0 0 0 0 0)
+    → set (set (set (set (set (set (sets t 0 (sentinel x x x x x x)) 10 0) 11 0) 12 0) 13 0) 14 0) 15 0
+    ≡ sets t 0 (sentinel 0 0 0 0 0 0)
 locks-by-one t x =
-    ap (λ (l : List ℕ). set (set (set (set (set l 11 0) 12 0) 13 0) 14 0) 15 0) (sets-set (sentinel x x x x x x) t 0 10 0 (omega arith))
+    ap (λ (l : List ℕ). set (set (set (set (set l 11 0) 12 0) 13 0) 14 0) 15 0)
+    (sets-set (sentinel x x x x x x) t 0 10 0 (omega arith))
     ∙ ap (λ (l : List ℕ). set (set (set (set l 12 0) 13 0) 14 0) 15 0) (sets-set (sentinel 0 x x x x x) t 0 11 0 (omega arith))
     ∙ ap (λ (l : List ℕ). set (set (set l 13 0) 14 0) 15 0) (sets-set (sentinel 0 0 x x x x) t 0 12 0 (omega arith))
     ∙ ap (λ (l : List ℕ). set (set l 14 0) 15 0) (sets-set (sentinel 0 0 0 x x x) t 0 13 0 (omega arith))
@@ -55,7 +57,8 @@ locks-done zero t = refl
 locks-done (suc bound) t = refl
 
 locks-made : (bound n unmade : ℕ)
-    → initLocks (suc (suc (suc (suc (suc (suc bound)))))) (refNode (replicate n 0) 0 0 0 5 (AllocN 6 unmade) (AllocN 6 0)) 0 ≡ freshNodes n
+    → initLocks (suc (suc (suc (suc (suc (suc bound)))))) (refNode (replicate n 0) 0 0 0 5 (AllocN 6 unmade) (AllocN 6 0)) 0
+    ≡ freshNodes n
 unfolding initLocks refNode withWord
 locks-made bound n unmade = locks-done bound _ ∙ locks-by-one (replicate n 0) unmade ∙ fresh-is n
 
@@ -70,14 +73,16 @@ new-is (suc (suc (suc zero))) n v x lt = absurd (omega arith)
 new-is (suc (suc (suc (suc zero)))) n v x lt = absurd (omega arith)
 new-is (suc (suc (suc (suc (suc zero))))) n v x lt = absurd (omega arith)
 new-is (suc (suc (suc (suc (suc (suc bound)))))) n v x lt =
-    ap (λ (t : List ℕ). record { nodes = t; versions = replicate v 0; counts = record { nodes = 0; versions = 0 } }) (sym (locks-made bound n x))
+    ap (λ (t : List ℕ). record { nodes = t; versions = replicate v 0; counts = record { nodes = 0; versions = 0 } })
+    (sym (locks-made bound n x))
 
 pub opens-new : OpensNew
 unfolding openOf
 opens-new nodes versions processes limit opened bound lt unmade = go (openPermit nodes versions processes limit) opened
   where
     go : (p : Permit) → openBy p nodes versions processes limit .result .outcome ≡ Opening.Opened
-        → memoryIn (begin (openBy p nodes versions processes limit) processes limit .store) ≡ new bound (length nodes) (length versions) unmade
+        → memoryIn (begin (openBy p nodes versions processes limit) processes limit .store)
+        ≡ new bound (length nodes) (length versions) unmade
     go (Denied r) e = absurd (unfold openBy in (refused≢opened r e))
       where
         refused≢opened : (r : Refusal) → Opening.Refused r ≡ Opening.Opened → ⊥

@@ -27,4 +27,5 @@ put-alone w reached bound enough i k v t draw start free o time =
     let l₁ = subst (λ (s : State). Lives (withState w s)) (a .state-is) (acted-lives l (startPut i k v t draw)) in
     let e = put-ends (l .live .core .nodes) (l .live .core .book) (asked-put k v t draw now (a .range)) bound enough i now free in
     rw (a .state-is, a .start-is)
-    (finishes w i call (l₁ .live) (a .below) refl n (r .memory) (r .answer) (ownVersion call) (now + (searchSteps bound m k + 4)) e (omega (arith, a .start-is)))
+    (finishes w i call (l₁ .live) (a .below) refl n (r .memory) (r .answer) (ownVersion call)
+    (now + (searchSteps bound m k + 4)) e (omega (arith, a .start-is)))

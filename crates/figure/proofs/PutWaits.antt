@@ -19,10 +19,11 @@ use Rattle.figure.specs.Alone.{Turned, turned, memoryIn, waits, waited, 
 use Rattle.figure.proofs.Runs.{Place, at-place, stepped, Waiting}
 use Rattle.figure.proofs.Walking.{put-call, asked-put}
 use Rattle.figure.proofs.Putting.{put-waits}
-use Rattle.figure.proofs.Lifted.{later, place-in, step-is, placed, lift}
+use Rattle.figure.proofs.Lifted.{then, later, place-in, step-is, placed, lift}
 use Rattle.figure.proofs.Called.{accepted, Lives, reached-lives, acted-lives, here}
 
-wait-step : {K W : ℕ} {w : Store} {h : History} → Live K W w h → (i : ℕ) → i < w .state .processes → w .state .events < w .state .limit
+wait-step : {K W : ℕ} {w : Store} {h : History} → Live K W w h → (i : ℕ) → i < w .state .processes
+    → w .state .events < w .state .limit
     → stepped i (w .state .events + 1) (place-in w i) ≡ moved (memory w) Wait
     → stepOf w i ≡ record { outcome = Stepping.Waited (w .state .events + 1); store = waited w 1 }
 unfolding stepBy outcomeOf processAfter tallyAfter
@@ -33,18 +34,21 @@ wait-step {w = w} l i below time e =
 waited-on : (w : Store) (a b : ℕ) → waited (waited w a) b ≡ waited w (a + b)
 waited-on w a b = rw (add-assoc (w .state .events) a b)
 
-stays : {K W : ℕ} (i n : ℕ) {w : Store} {h : History} → Live K W w h → i < w .state .processes → w .state .events + n ≤ w .state .limit
+stays : {K W : ℕ} (i n : ℕ) {w : Store} {h : History} → Live K W w h → i < w .state .processes
+    → w .state .events + n ≤ w .state .limit
     → ((tick : ℕ) → stepped i tick (place-in w i) ≡ moved (memory w) Wait)
     → turned w i n ≡ record { outcomes = waits (w .state .events + 1) n; store = waited w n }
 unfolding turned waits
 stays i zero {w} l below time still = rw (add-zero (w .state .events))
 stays {K} {W} i (suc n) {w} {h} l below time still =
     let t = w .state .events + 1 in
-    let s : stepOf w i ≡ record { outcome = Stepping.Waited t; store = waited w 1 } = wait-step l i below (omega arith) (still t) in
+    let s : stepOf w i ≡ record { outcome = Stepping.Waited t; store = waited w 1 } =
+    wait-step l i below (omega arith) (still t) in
     let l₁ : Live K W (waited w 1) (sawStep h i (Stepping.Waited t)) =
     subst (λ (o : Stepped). Live K W (o .store) (sawStep h i (o .outcome))) s (step-live l i) in
-    ap (λ (o : Stepped). record { outcomes = o .outcome ∷ turned (o .store) i n .outcomes; store = turned (o .store) i n .store }) s
-    ∙ ap (λ (r : Turned). record { outcomes = Stepping.Waited t ∷ r .outcomes; store = r .store }) (stays i n l₁ below (omega arith) still)
+    ap (then i n) s
+    ∙ ap (λ (r : Turned). record { outcomes = Stepping.Waited t ∷ r .outcomes; store = r .store })
+    (stays i n l₁ below (omega arith) still)
     ∙ ap (λ (z : Store). record { outcomes = Stepping.Waited t ∷ waits (t + 1) n; store = z })
     (waited-on w 1 n ∙ ap (waited w) (one-more n))
   where
@@ -71,9 +75,11 @@ module _ {K W : ℕ} (w : Store) (i : ℕ) (call : Call) {h : History}
       record {
         comes = ap (λ (r : Turned). r .outcomes) (T .turns);
         leaves = ap (λ (r : Turned). memoryIn (r .store)) (T .turns);
-        stays = λ more time. subst (λ (z : Store). turned z i more ≡ record { outcomes = waits (start + n + 1) more; store = waited z more })
+        stays = λ more time. subst (λ (z : Store). turned z i more
+            ≡ record { outcomes = waits (start + n + 1) more; store = waited z more })
             (sym (ap (λ (r : Turned). r .store) (T .turns)))
-            (stays i more (T .live) below time (λ tick. ap (λ (z : Place). stepped i tick z) (placed l i below n y) ∙ there .waits tick));
+            (stays i more (T .live) below time (λ tick. ap (λ (z : Place). stepped i tick z) (placed l i below n y)
+            ∙ there .waits tick));
       }
 
 pub put-waits-alone : PutWaits
@@ -89,4 +95,5 @@ put-waits-alone w reached bound enough i k v t draw l begun-at le free taken new
     let n = searchSteps bound m k + 1 + 5 * l in
     let e = put-waits (c .nodes) (c .book) (asked-put k v t draw now (a .range)) bound enough i now l le free taken new in
     rw (a .state-is, a .start-is)
-    (waits-there w i call (l₁ .live) (a .below) refl n (leftBelow alone i bound m k v t (topOf draw) l) e (omega (arith, a .start-is)))
+    (waits-there w i call (l₁ .live) (a .below) refl n (leftBelow alone i bound m k v t (topOf draw) l) e
+    (omega (arith, a .start-is)))

@@ -55,7 +55,8 @@ module _ {m : Memory} {g : Ghost} {b : Map} (N : Nodes m g) (B : Book m b) {call
   -- ---- the walk
 
   W : Walked N P put≢idle i bound (start + 1) HMAX head (replicate 6 0)
-  W = walk-down N P put≢idle i bound (omega arith) HMAX head (start + 1) (replicate 6 0) (omega arith) (at-head N (P .key-high) (P .key-low))
+  W = walk-down N P put≢idle i bound (omega arith) HMAX head (start + 1) (replicate 6 0) (omega arith)
+      (at-head N (P .key-high) (P .key-low))
 
   abbrev walked : ℕ
   walked = hopsDown bound m head k HMAX + HMAX
@@ -99,12 +100,17 @@ module _ {m : Memory} {g : Ghost} {b : Map} (N : Nodes m g) (B : Book m b) {call
       (start + (searchSteps bound m k + 4))
 
   plain-turn : (m₂ : Memory) (made tick e : ℕ) (a : Answer) → Plain a → path 0 ≤ m₂ .counts .nodes
-      → turnOf (i + 1) tick (pose call Release 0 (path 0) preds made a e) m₂ ≡ moved (release m₂ (path 0) 0) (End a (ownVersion call) e)
+      → turnOf (i + 1) tick (pose call Release 0 (path 0) preds made a e) m₂
+      ≡ moved (release m₂ (path 0) 0) (End a (ownVersion call) e)
   unfolding phaseOf releaseOf released isNew placeOf freed lawfulAt fromPut
-  plain-turn m₂ made tick e TooOld p used = turn-is (i + 1) tick (pose call Release 0 (path 0) preds made TooOld e) m₂ (omega arith) used (rw (P .kind-is) tt)
-  plain-turn m₂ made tick e VersionsFull p used = turn-is (i + 1) tick (pose call Release 0 (path 0) preds made VersionsFull e) m₂ (omega arith) used (rw (P .kind-is) tt)
-  plain-turn m₂ made tick e Added p used = turn-is (i + 1) tick (pose call Release 0 (path 0) preds made Added e) m₂ (omega arith) used (rw (P .kind-is) tt)
-  plain-turn m₂ made tick e KeysFull p used = turn-is (i + 1) tick (pose call Release 0 (path 0) preds made KeysFull e) m₂ (omega arith) used (rw (P .kind-is) tt)
+  plain-turn m₂ made tick e TooOld p used = turn-is (i + 1) tick (pose call Release 0 (path 0) preds made TooOld e) m₂
+      (omega arith) used (rw (P .kind-is) tt)
+  plain-turn m₂ made tick e VersionsFull p used = turn-is (i + 1) tick (pose call Release 0 (path 0) preds made VersionsFull e) m₂
+      (omega arith) used (rw (P .kind-is) tt)
+  plain-turn m₂ made tick e Added p used = turn-is (i + 1) tick (pose call Release 0 (path 0) preds made Added e) m₂
+      (omega arith) used (rw (P .kind-is) tt)
+  plain-turn m₂ made tick e KeysFull p used = turn-is (i + 1) tick (pose call Release 0 (path 0) preds made KeysFull e) m₂
+      (omega arith) used (rw (P .kind-is) tt)
   plain-turn m₂ made tick e New p used = absurd p
   plain-turn m₂ made tick e Found p used = absurd p
   plain-turn m₂ made tick e None p used = absurd p
@@ -133,7 +139,8 @@ module _ {m : Memory} {g : Ghost} {b : Map} (N : Nodes m g) (B : Book m b) {call
     steps-is = plain-steps (o .answer) (s .answer);
     last = at-place (pose call Release 0 (path 0) preds (made-of (o .node)) (o .answer) effect) (o .memory);
     run = low free .0;
-    ends = plain-turn (o .memory) (made-of (o .node)) _ effect (o .answer) (s .answer) (omega (arith, s .same, finds-at 0 (omega arith) .spot .used))
+    ends = plain-turn (o .memory) (made-of (o .node)) _ effect (o .answer) (s .answer)
+        (omega (arith, s .same, finds-at 0 (omega arith) .spot .used))
         ∙ ap (λ t. moved (release (o .memory) (path 0) 0) (End (o .answer) (ownVersion call) t)) effect-is;
   }
 
@@ -163,7 +170,8 @@ module _ {m : Memory} {g : Ghost} {b : Map} (N : Nodes m g) (B : Book m b) {call
 
   climbs : (l : ℕ) → suc l ≤ h → lock (m .nodes) (suc l) (path (suc l)) ≡ 0 → Up l → Up (suc l)
   climbs l le free U = subst
-      (λ (r : Inserted). Climbed N P i start effect (at-place (begun call) m) preds (walked + 5 + 5 * suc l) (suc l) (path (suc l)) r)
+      (λ (r : Inserted). Climbed N P i start effect (at-place (begun call) m) preds (walked + 5 + 5 * suc l) (suc l)
+      (path (suc l)) r)
       (sym (out-next l (omega arith)))
       (subst (λ n. Climbed N P i start effect (at-place (begun call) m) preds n (suc l) (path (suc l))
       (insertAbove alone i bound (out l) (path (suc l)) (suc l) (out l .node))) (sum walked l)
@@ -193,7 +201,8 @@ module _ {m : Memory} {g : Ghost} {b : Map} (N : Nodes m g) (B : Book m b) {call
     steps-is = omega arith;
     last = at-place (releases P i preds (m .counts .nodes + 1) effect h (path h)) (U .held);
     run = U .run;
-    ends = top-turn (U .held) _ (U .used) ∙ ap (λ t. moved (release (U .held) (path h) h) (End New (ownVersion call) t)) effect-is;
+    ends = top-turn (U .held) _ (U .used)
+        ∙ ap (λ t. moved (release (U .held) (path h) h) (End New (ownVersion call) t)) effect-is;
   })
 
   -- ---- where a lock is held, it comes to it and waits
@@ -219,16 +228,20 @@ module _ {m : Memory} {g : Ghost} {b : Map} (N : Nodes m g) (B : Book m b) {call
       rw (U .out-is) (record {
         process = pose call Lock (suc l) (path (suc l)) preds (m .counts .nodes + 1) New effect;
         run = run-same (omega arith) (run-on (run-on (U .run)
-            (rises N P i start effect x preds bound (omega arith) (walked + 5 + 5 * l) l (path l) (out l) U le f (known l (omega arith)) (start + 1 + (walked + 5 + 5 * l))))
-            (seeks N P i start effect x preds bound (omega arith) (walked + 5 + 5 * l) l (path l) (out l) U le f (known l (omega arith)) (start + 1 + (walked + 5 + 5 * l + 1))));
-        waits = λ tick. waits N P i start effect x preds bound (omega arith) (walked + 5 + 5 * l) l (path l) (out l) U le f (known l (omega arith)) tick taken;
+            (rises N P i start effect x preds bound (omega arith) (walked + 5 + 5 * l) l (path l) (out l) U le f
+            (known l (omega arith)) (start + 1 + (walked + 5 + 5 * l))))
+            (seeks N P i start effect x preds bound (omega arith) (walked + 5 + 5 * l) l (path l) (out l) U le f
+            (known l (omega arith)) (start + 1 + (walked + 5 + 5 * l + 1))));
+        waits = λ tick. waits N P i start effect x preds bound (omega arith) (walked + 5 + 5 * l) l (path l) (out l) U le f
+            (known l (omega arith)) tick taken;
       })
 
   -- the answer is that of the bottom level
   answers : (l : ℕ) → l ≤ HMAX → out l .answer ≡ o .answer
   unfolding insertAbove
   answers zero le = ap (λ (r : Inserted). r .answer) out-zero
-  answers (suc l) le = ap (λ (r : Inserted). r .answer) (out-next l (omega arith)) ∙ kept (out l) (out l .node) ∙ answers l (omega arith)
+  answers (suc l) le = ap (λ (r : Inserted). r .answer) (out-next l (omega arith)) ∙ kept (out l) (out l .node)
+      ∙ answers l (omega arith)
     where
       kept : (r : Inserted) (n : Option ℕ) → insertAbove alone i bound r (path (suc l)) (suc l) n .answer ≡ r .answer
       kept r none = refl
@@ -236,7 +249,8 @@ module _ {m : Memory} {g : Ghost} {b : Map} (N : Nodes m g) (B : Book m b) {call
 
   pub put-waits : (l : ℕ) → l ≤ h → ((j : ℕ) → j < l → lock (m .nodes) j (path j) ≡ 0) → lock (m .nodes) l (path l) ≢ 0
       → (l ≢ 0 → putH alone i bound m k (call .value) (call .timestamp) h .answer ≡ New)
-      → Waiting i start (searchSteps bound m k + 1 + 5 * l) (at-place (begun call) m) (leftBelow alone i bound m k (call .value) (call .timestamp) h l)
+      → Waiting i start (searchSteps bound m k + 1 + 5 * l) (at-place (begun call) m)
+      (leftBelow alone i bound m k (call .value) (call .timestamp) h l)
   unfolding putH leftBelow
   put-waits zero le free taken new =
       subst (λ n. Waiting i start n (at-place (begun call) m) m) (sym (add-zero (searchSteps bound m k + 1))) (waits-low taken)
@@ -276,7 +290,8 @@ module _ {m : Memory} {g : Ghost} {b : Map} (N : Nodes m g) (B : Book m b) {call
         kept : x ≤ m .counts .nodes → lock (release (o .memory) q 0 .nodes) l x ≡ lock (m .nodes) l x
         kept hx = by-eq x q
             (λ ex. by-eq l 0
-            (λ el. rw (ex, el) (word-same (o .memory .nodes) q 10 0 (omega arith) (omega (arith, s .size, N .size, N .room, used)) ∙ sym (free 0 (omega arith))))
+            (λ el. rw (ex, el) (word-same (o .memory .nodes) q 10 0 (omega arith) (omega (arith, s .size, N .size, N .room, used))
+            ∙ sym (free 0 (omega arith))))
             (λ nl. other (λ e. omega arith)))
             (λ nx. other (λ e. absurd (nx e)))
           where

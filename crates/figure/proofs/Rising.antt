@@ -71,7 +71,8 @@ module _ (m : Memory) (call : Call) (i q : ℕ) (size : length (m .nodes) ≡ no
   bottom-lock : (z : ℕ) → z ≤ m .counts .nodes → lock (withWord t₃ q 10 0) 0 z ≡ lock (m .nodes) 0 z
   bottom-lock z hz = by-eq z q
       (λ e. rw e (word-same t₃ q 10 0 (omega arith) (omega (arith, long₃, size)) ∙ sym free))
-      (λ ne. word-node t₃ q z 10 10 0 (omega arith) (omega arith) ne ∙ word-field t₂ q z 4 10 x (omega arith) (omega arith) (omega arith)
+      (λ ne. word-node t₃ q z 10 10 0 (omega arith) (omega arith) ne
+      ∙ word-field t₂ q z 4 10 x (omega arith) (omega arith) (omega arith)
       ∙ node-out t₁ x (call .key) v (call .top) (next t₁ 0 q) z 10 (omega arith) (omega arith)
       ∙ word-node (m .nodes) q z 10 10 (i + 1) (omega arith) (omega arith) ne)
 
@@ -84,13 +85,15 @@ module _ (m : Memory) (call : Call) (i q : ℕ) (size : length (m .nodes) ≡ no
     keys = λ z hz. older z 0 (omega arith) (omega arith) (omega arith) hz;
     key-is = newer 0 (omega arith);
     links = λ j z hj j5 hz. older z (4 + j) (omega arith) (omega arith) (omega arith) hz;
-    locks = λ j z j5 hz. by-eq j 0 (λ e. rw e (bottom-lock z hz)) (λ ne. older z (10 + j) (omega arith) (omega arith) (omega arith) hz);
+    locks = λ j z j5 hz. by-eq j 0 (λ e. rw e (bottom-lock z hz))
+        (λ ne. older z (10 + j) (omega arith) (omega arith) (omega arith) hz);
     own-locks = λ j j5. newer (10 + j) (omega arith) ∙ node-locks (call .key) v (call .top) (next t₁ 0 q) j (omega arith);
   }
 
 -- ---- it is linked one level higher
 
-module _ (m M : Memory) (k l i p : ℕ) (R : Risen m M k l) (l5 : suc l ≤ 5) (used : p ≤ m .counts .nodes) (free : lock (m .nodes) (suc l) p ≡ 0) where
+module _ (m M : Memory) (k l i p : ℕ) (R : Risen m M k l) (l5 : suc l ≤ 5) (used : p ≤ m .counts .nodes)
+    (free : lock (m .nodes) (suc l) p ≡ 0) where
   abbrev n : ℕ
   n = m .counts .nodes + 1
 
@@ -110,18 +113,21 @@ module _ (m M : Memory) (k l i p : ℕ) (R : Risen m M k l) (l5 : suc l ≤ 5) (
   s₃ = withWord s₂ p (4 + L) n
 
   long₄ : length s₃ ≡ length (m .nodes)
-  long₄ = length-word s₂ p (4 + L) n ∙ length-word (M₁ .nodes) n (4 + L) (next (M₁ .nodes) L p) ∙ length-word (M .nodes) p (10 + L) (i + 1) ∙ R .size
+  long₄ = length-word s₂ p (4 + L) n ∙ length-word (M₁ .nodes) n (4 + L) (next (M₁ .nodes) L p)
+      ∙ length-word (M .nodes) p (10 + L) (i + 1) ∙ R .size
 
   -- a word that is neither a link nor a lock of this level
   spared : (z f : ℕ) → f < nodeWords → f ≢ 4 + L → f ≢ 10 + L → word (withWord s₃ p (10 + L) 0) z f ≡ word (M .nodes) z f
   spared z f hf n4 n10 =
       word-field s₃ p z (10 + L) f 0 (omega arith) hf n10 ∙ word-field s₂ p z (4 + L) f n (omega arith) hf n4
-      ∙ word-field (M₁ .nodes) n z (4 + L) f (next (M₁ .nodes) L p) (omega arith) hf n4 ∙ word-field (M .nodes) p z (10 + L) f (i + 1) (omega arith) hf n10
+      ∙ word-field (M₁ .nodes) n z (4 + L) f (next (M₁ .nodes) L p) (omega arith) hf n4
+      ∙ word-field (M .nodes) p z (10 + L) f (i + 1) (omega arith) hf n10
 
   -- the locks of this level: p's was taken and freed
   other-lock : (z : ℕ) → z ≢ p → lock (withWord s₃ p (10 + L) 0) L z ≡ lock (M .nodes) L z
   other-lock z ne =
-      word-node s₃ p z (10 + L) (10 + L) 0 (omega arith) (omega arith) ne ∙ word-field s₂ p z (4 + L) (10 + L) n (omega arith) (omega arith) (omega arith)
+      word-node s₃ p z (10 + L) (10 + L) 0 (omega arith) (omega arith) ne
+      ∙ word-field s₂ p z (4 + L) (10 + L) n (omega arith) (omega arith) (omega arith)
       ∙ word-field (M₁ .nodes) n z (4 + L) (10 + L) (next (M₁ .nodes) L p) (omega arith) (omega arith) (omega arith)
       ∙ word-node (M .nodes) p z (10 + L) (10 + L) (i + 1) (omega arith) (omega arith) ne
 

@@ -72,7 +72,8 @@ module _ (m : Memory) (k : ℕ) where
   all-here bound p zero = refl
   all-here bound p (suc l) = if-yes (eqb (suc l) (suc l)) _ _ (eq→eqb (suc l) (suc l) refl)
 
-  pub all-down : (bound p l d : ℕ) → d ≤ l → findAll bound m p k (suc l) d ≡ findAll bound m (find bound m p k (suc l) .pred) k l d
+  pub all-down : (bound p l d : ℕ) → d ≤ l
+      → findAll bound m p k (suc l) d ≡ findAll bound m (find bound m p k (suc l) .pred) k l d
   unfolding findAll
   all-down bound p l d le = if-no (eqb (suc l) d) _ _ (ne→neqb (suc l) d (omega arith))
 
@@ -112,7 +113,8 @@ module _ {m : Memory} {g : Ghost} (N : Nodes m g) {k : ℕ} (k-max : k < MAX) wh
 
   →between : (p x : ℕ) → key (m .nodes) p < key (m .nodes) x → key (m .nodes) x < k → T (between m k p x)
   →between p x a b =
-      →and (ltb (key (m .nodes) p) (key (m .nodes) x)) (ltb (key (m .nodes) x) k) (lt→ltb (key (m .nodes) p) (key (m .nodes) x) a) (lt→ltb (key (m .nodes) x) k b)
+      →and (ltb (key (m .nodes) p) (key (m .nodes) x)) (ltb (key (m .nodes) x) k) (lt→ltb (key (m .nodes) p) (key (m .nodes) x) a)
+      (lt→ltb (key (m .nodes) x) k b)
 
   -- the link of a node of the level leads to one in use
   pub link-used : {l p : ℕ} → At m g l p k → next (m .nodes) l p ≢ 0 → next (m .nodes) l p ≤ m .counts .nodes
@@ -148,8 +150,10 @@ module _ {m : Memory} {g : Ghost} (N : Nodes m g) {k : ℕ} (k-max : k < MAX) wh
 
   -- Whatever holds where find stops, and of a node whose hop leads to where it holds, holds of find and of its hops.
   pub along : (l : ℕ) (P : (p : ℕ) → Pair → (n : ℕ) → Type 0)
-      → ((p : ℕ) → At m g l p k → T (leb k (keyOf m (next (m .nodes) l p))) → P p (record { pred = p; succ = next (m .nodes) l p }) 0)
-      → ((p : ℕ) (r : Pair) (n : ℕ) → At m g l p k → T (not (leb k (keyOf m (next (m .nodes) l p)))) → Hop l p → P (next (m .nodes) l p) r n → P p r (suc n))
+      → ((p : ℕ) → At m g l p k → T (leb k (keyOf m (next (m .nodes) l p)))
+      → P p (record { pred = p; succ = next (m .nodes) l p }) 0)
+      → ((p : ℕ) (r : Pair) (n : ℕ) → At m g l p k → T (not (leb k (keyOf m (next (m .nodes) l p)))) → Hop l p
+      → P (next (m .nodes) l p) r n → P p r (suc n))
       → (bound p : ℕ) → left m k p ≤ bound → At m g l p k → P p (find bound m p k l) (hops bound m p k l)
   along l P stops hops-on zero p enough a = by-test (leb k (keyOf m (next (m .nodes) l p)))
       (λ t. rw (find-stop 0 m p k l t, hops-stop 0 m p k l t) (stops p a t))

@@ -23,12 +23,14 @@ use Rattle.figure.proofs.Runs.{Place, at-place, Run, run-none, run-one,
 
 -- ---- where a link leads, by the figure's tests
 
-module _ (m : Memory) (k : ℕ) (k-max : k < MAX) (l p : ℕ) (used : next (m .nodes) l p ≢ 0 → next (m .nodes) l p ≤ m .counts .nodes) where
+module _ (m : Memory) (k : ℕ) (k-max : k < MAX) (l p : ℕ)
+    (used : next (m .nodes) l p ≢ 0 → next (m .nodes) l p ≤ m .counts .nodes) where
   abbrev y : ℕ
   y = next (m .nodes) l p
 
   not-beyond : y ≢ 0 → T (not (ltb (m .counts .nodes) y))
-  not-beyond ne = by-test (ltb (m .counts .nodes) y) (λ t. absurd (omega (arith, lib.Dec.ltb→lt (m .counts .nodes) y t, used ne))) (λ t. t)
+  not-beyond ne = by-test (ltb (m .counts .nodes) y) (λ t. absurd (omega (arith, lib.Dec.ltb→lt (m .counts .nodes) y t, used ne)))
+      (λ t. t)
 
   pub ahead-less : T (not (leb k (keyOf m y))) → ahead m l p k ≡ Less y
   unfolding ahead
@@ -46,7 +48,8 @@ module _ (m : Memory) (k : ℕ) (k-max : k < MAX) (l p : ℕ) (used : next (m .n
   ahead-equal t =
       let b = key-same m k k-max y t in
       if-no (eqb y 0) _ _ (ne→neqb y 0 (b .0)) ∙ if-no (ltb (m .counts .nodes) y) _ _ (not-beyond (b .0))
-      ∙ if-no (ltb (key (m .nodes) y) k) _ _ (by-test (ltb (key (m .nodes) y) k) (λ u. absurd (omega (arith, lib.Dec.ltb→lt (key (m .nodes) y) k u, b .1))) (λ u. u))
+      ∙ if-no (ltb (key (m .nodes) y) k) _ _ (by-test (ltb (key (m .nodes) y) k)
+      (λ u. absurd (omega (arith, lib.Dec.ltb→lt (key (m .nodes) y) k u, b .1))) (λ u. u))
       ∙ if-yes (eqb (key (m .nodes) y) k) _ _ (eq→eqb (key (m .nodes) y) k (b .1))
 
   pub ahead-past : T (leb k (keyOf m y)) → T (not (eqb k (keyOf m y))) → ahead m l p k ≡ Past
@@ -122,7 +125,8 @@ lawful-walk Get busy = tt
 
 -- ---- the walk
 
-module _ {m : Memory} {g : Ghost} (N : Nodes m g) {kind : Kind} {call : Call} (P : Asked kind call) (busy : kind ≢ Idle) (i : ℕ) where
+module _ {m : Memory} {g : Ghost} (N : Nodes m g) {kind : Kind} {call : Call} (P : Asked kind call) (busy : kind ≢ Idle)
+    (i : ℕ) where
   abbrev k : ℕ
   k = call .key
 
@@ -137,7 +141,8 @@ module _ {m : Memory} {g : Ghost} (N : Nodes m g) {kind : Kind} {call : Call} (P
       ≡ moved m (walkBy call (before call Walk l p preds .cursor) tick (ahead m l p k))
   unfolding phaseOf walkOf
   walk-turn tick l p preds a =
-      turn-is (i + 1) tick (before call Walk l p preds) m (level5 N (P .key-high) a) (a .used) (lawful-walk (call .kind) (λ e. busy (sym (P .kind-is) ∙ e)))
+      turn-is (i + 1) tick (before call Walk l p preds) m (level5 N (P .key-high) a) (a .used)
+      (lawful-walk (call .kind) (λ e. busy (sym (P .kind-is) ∙ e)))
 
   walk-hop : (tick l p : ℕ) (preds : List ℕ) → At m g l p k → T (not (leb k (keyOf m (link l p))))
       → Run i tick 1 (walks l p preds) (walks l (link l p) preds)
@@ -182,11 +187,13 @@ module _ {m : Memory} {g : Ghost} (N : Nodes m g) {kind : Kind} {call : Call} (P
     pub known : (j : ℕ) → 1 ≤ j → j ≤ l → getD preds′ j 0 ≡ findAll bound m p k l j .pred
     pub kept : (j : ℕ) → l < j → getD preds′ j 0 ≡ getD preds j 0
 
-  pub walk-down : (bound : ℕ) → m .counts .nodes ≤ bound → (l p tick : ℕ) (preds : List ℕ) → l < length preds → At m g l p k → Walked bound tick l p preds
+  pub walk-down : (bound : ℕ) → m .counts .nodes ≤ bound → (l p tick : ℕ) (preds : List ℕ) → l < length preds → At m g l p k
+      → Walked bound tick l p preds
   unfolding hopsDown
   walk-down bound enough zero p tick preds long a = record {
     preds′ = preds;
-    run = rw (all-here m k bound p 0) (run-same (omega arith) (walk-along bound 0 p preds (omega (arith, left-most m k p)) a tick));
+    run = rw (all-here m k bound p 0) (run-same (omega arith)
+        (walk-along bound 0 p preds (omega (arith, left-most m k p)) a tick));
     six = refl;
     known = λ j j1 j0. absurd (omega arith);
     kept = λ j h. refl;
@@ -197,11 +204,14 @@ module _ {m : Memory} {g : Ghost} (N : Nodes m g) {kind : Kind} {call : Call} (P
       let stop : T (leb k (keyOf m (link (suc l) q))) = rw (f .succ-is) at (f .stop) in
       let first = walk-along bound (suc l) p preds (omega (arith, left-most m k p)) a tick in
       let h = hops bound m p k (suc l) in
-      let rest = walk-down bound enough l q (tick + (h + 1)) (set preds (suc l) q) (omega (arith, length-set preds (suc l) q)) (lower N (P .key-high) (f .spot)) in
+      let rest =
+      walk-down bound enough l q (tick + (h + 1)) (set preds (suc l) q) (omega (arith, length-set preds (suc l) q))
+      (lower N (P .key-high) (f .spot)) in
       let down : (d : ℕ) → d ≤ l → findAll bound m p k (suc l) d ≡ findAll bound m q k l d = all-down m k bound p l in
       record {
         preds′ = rest .preds′;
-        run = rw (down 0 (omega arith)) (run-same (omega arith) (run-on (run-on first (walk-end (tick + h) l q preds (f .spot) stop)) (rest .run)));
+        run = rw (down 0 (omega arith)) (run-same (omega arith)
+            (run-on (run-on first (walk-end (tick + h) l q preds (f .spot) stop)) (rest .run)));
         six = rest .six ∙ length-set preds (suc l) q;
         known = λ j j1 jl. by-eq j (suc l)
             (λ e. rw (e, all-here m k bound p (suc l)) (rest .kept (suc l) (omega arith) ∙ getD-set-same preds (suc l) q 0 long))

@@ -54,7 +54,8 @@ link-is c m l5 free =
     let x = c .made in
     let y = next (m .nodes) l (c .pred) in
     ap (λ (z : List ℕ). withNodes m (withNext z l (c .pred) x))
-    (same-word (withNext (m .nodes) l x y) x (10 + l) (word-field (m .nodes) x x (4 + l) (10 + l) y (omega arith) (omega arith) (omega arith) ∙ free))
+    (same-word (withNext (m .nodes) l x y) x (10 + l)
+    (word-field (m .nodes) x x (4 + l) (10 + l) y (omega arith) (omega arith) (omega arith) ∙ free))
 
 -- at the bottom, of the node just created
 ref-is : (t : List ℕ) (n k val h : ℕ) → refNode t n k val h (AllocN 6 0) (AllocN 6 0) ≡ withNode t n k val h 0
@@ -62,7 +63,8 @@ unfolding refNode withNode
 ref-is t n k val h = refl
 
 pub make-is : (call : Call) (c : Cursor) (m : Memory) → c .pred ≤ m .counts .nodes
-    → link (create m (call .key) (call .value) (call .timestamp) (call .top)) (c .pred) 0 (m .counts .nodes + 1) ≡ addNode call c m
+    → link (create m (call .key) (call .value) (call .timestamp) (call .top)) (c .pred) 0 (m .counts .nodes + 1)
+    ≡ addNode call c m
 unfolding link create addNode
 make-is call c m used =
     let x = m .counts .nodes + 1 in
@@ -73,6 +75,8 @@ make-is call c m used =
       versions = withVersion (m .versions) i (ownVersion call) 0;
       counts = record { nodes = x; versions = i };
     } in
-    ap (λ (z : List ℕ). left (withLock (withNext z 0 x (next z 0 (c .pred))) 0 x 0)) (ref-is (m .nodes) x (call .key) i (call .top))
-    ∙ ap (λ (y : ℕ). left (withLock (withNext t 0 x y) 0 x 0)) (node-out (m .nodes) x (call .key) i (call .top) 0 (c .pred) 4 (omega arith) (omega arith))
+    ap (λ (z : List ℕ). left (withLock (withNext z 0 x (next z 0 (c .pred))) 0 x 0))
+    (ref-is (m .nodes) x (call .key) i (call .top))
+    ∙ ap (λ (y : ℕ). left (withLock (withNext t 0 x y) 0 x 0))
+    (node-out (m .nodes) x (call .key) i (call .top) 0 (c .pred) 4 (omega arith) (omega arith))
     ∙ ap left (linked-record (m .nodes) x (call .key) i (call .top) (next (m .nodes) 0 (c .pred)))

@@ -189,6 +189,8 @@ PutWaits = (w : Store) → Reached w → (bound : ℕ) → w .state .counts .nod
 -- The tables that an accepted opening leaves are those of the figure's `new`: the left sentinel as document 01 lays it out, every
 -- link leading to the right one, and every lock made, whatever it held before.
 abbrev pub OpensNew : Type 0
-OpensNew = (nodes versions : List ℕ) (processes limit : ℕ) → openOf nodes versions processes limit .result .outcome ≡ Opening.Opened
+OpensNew = (nodes versions : List ℕ) (processes limit : ℕ)
+    → openOf nodes versions processes limit .result .outcome ≡ Opening.Opened
     → (bound : ℕ) → HMAX < bound → (unmade : ℕ)
-    → memoryIn (begin (openOf nodes versions processes limit) processes limit .store) ≡ new bound (length nodes) (length versions) unmade
+    → memoryIn (begin (openOf nodes versions processes limit) processes limit .store)
+    ≡ new bound (length nodes) (length versions) unmade

@@ -22,7 +22,8 @@ pub record Few (bound : ℕ) (m : Memory) (k : ℕ) : Type 0 where
       → stepsOf bound m k (put alone i bound m k v t draw .answer) (topOf draw) ≤ smaller m k + 11 + 5 * topOf draw
 
 abbrev pub FewSteps : Type 0
-FewSteps = (w : Store) → Reached w → (bound : ℕ) → w .state .counts .nodes < bound → (k : ℕ) → lawfulKey k ≡ true → Few bound (memoryIn w) k
+FewSteps = (w : Store) → Reached w → (bound : ℕ) → w .state .counts .nodes < bound → (k : ℕ) → lawfulKey k ≡ true
+    → Few bound (memoryIn w) k
 
 -- "Empty store, get: 6 steps, none. Put, draw 1: 11 steps, effect in the 10th. Draw 8: 26 steps. Draw 0: 36."
 pub record Empty (bound : ℕ) (m : Memory) (k : ℕ) : Type 0 where
@@ -34,7 +35,8 @@ pub record Empty (bound : ℕ) (m : Memory) (k : ℕ) : Type 0 where
 
 -- in every store that is freshly opened, for every lawful key
 abbrev pub EmptySteps : Type 0
-EmptySteps = (nodes versions : List ℕ) (processes limit : ℕ) → openOf nodes versions processes limit .result .outcome ≡ Opening.Opened
+EmptySteps = (nodes versions : List ℕ) (processes limit : ℕ)
+    → openOf nodes versions processes limit .result .outcome ≡ Opening.Opened
     → (bound k : ℕ) → 0 < bound → lawfulKey k ≡ true
     → Empty bound (memoryIn (begin (openOf nodes versions processes limit) processes limit .store)) k
 

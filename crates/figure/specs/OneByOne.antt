@@ -103,7 +103,8 @@ abbrev pub StoreFolds : Type 0
 StoreFolds = (w : Store) → Reached w → Resting w → (bound : ℕ) → maxNodes (memoryIn w) < bound → (rs : List Request)
     → All (λ r. Lawful r × (processOf r < w .state .processes)) rs
     → w .state .events + figureEvents bound (memoryIn w) rs ≤ w .state .limit
-    → (storeAll bound w rs ≡ figureAll bound (memoryIn w) rs) × (memoryIn (storeLeft bound w rs) ≡ figureLeft bound (memoryIn w) rs)
+    → (storeAll bound w rs ≡ figureAll bound (memoryIn w) rs)
+    × (memoryIn (storeLeft bound w rs) ≡ figureLeft bound (memoryIn w) rs)
 
 -- Figure 1 implements the plain ledger: from what `new` leaves in lawful tables, every list of calls is answered as the ledger,
 -- opened without lists, answers it.
@@ -116,7 +117,8 @@ FigureImplements = (nodes versions : ℕ) → lawfulNodes nodes ≡ true → law
 
 -- and so does a store that is freshly opened, one call at a time
 abbrev pub StoreImplements : Type 0
-StoreImplements = (nodes versions : List ℕ) (processes limit : ℕ) → openOf nodes versions processes limit .result .outcome ≡ Opening.Opened
+StoreImplements = (nodes versions : List ℕ) (processes limit : ℕ)
+    → openOf nodes versions processes limit .result .outcome ≡ Opening.Opened
     → let w = begin (openOf nodes versions processes limit) processes limit .store in
     (bound : ℕ) → capacity nodeWords (length nodes) < bound → (rs : List Request)
     → All (λ r. Lawful r × (processOf r < processes)) rs → figureEvents bound (memoryIn w) rs ≤ limit
