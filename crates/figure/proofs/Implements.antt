@@ -18,7 +18,7 @@ use Rattle.model.proofs.Effects.{Took, played}
 use Rattle.model.proofs.Live.{Live}
 use Rattle.model.proofs.Stepped.{put-reply, put-fed}
 use Rattle.model.proofs.Opened.{opened-live}
-use Rattle.figure.specs.Types.{Opening}
+use Rattle.figure.specs.Types.{Answer, Opening}
 use Rattle.figure.specs.Figure.{HMAX, MAX, head, alone, put}
 use Rattle.figure.specs.Alone.{memoryIn, Free, Unlocked}
 use Rattle.figure.specs.OneByOne.{Request, putting, getting, operationOf, figureReply, figureMemory, figureAll, ledgerAll, Lawful, FigureImplements}
@@ -52,8 +52,8 @@ module _ {K W : ℕ} {m : Memory} {b : Map} (O : Ordered K W m b) (bound : ℕ) 
       let E = get-ends (O .nodes) (O .book) P bound (omega arith) i 0 in
       record { replies = sym (L.played (O .nodes) (O .book) P get≢idle i E .got refl .1); leaves = O }
 
-  frees : (k h : ℕ) → (1 ≤ k) × (k < MAX) → h ≤ HMAX → Free bound m k h
-  frees k h range h5 l le =
+  frees : (k h : ℕ) (a : Answer) → (1 ≤ k) × (k < MAX) → h ≤ HMAX → Free bound m k h a
+  frees k h a range h5 l le _ =
       let f = all-finds (O .nodes) (range .1) bound (omega (arith, room)) HMAX head l (omega arith)
       (at-head (O .nodes) (range .1) (range .0)) in
       O .unlocked l _ (omega arith) (f .spot .used)
@@ -63,7 +63,7 @@ module _ {K W : ℕ} {m : Memory} {b : Map} (O : Ordered K W m b) (bound : ℕ) 
   puts i k v t draw range =
       let P = asked-put k v t draw 0 range in
       let o = put alone i bound m k v t draw in
-      let free = frees k (topOf draw) range (top-at-most draw) in
+      let free = frees k (topOf draw) (o .answer) range (top-at-most draw) in
       let E = put-ends (O .nodes) (O .book) P bound room i 0 free in
       let done = L.played (O .nodes) (O .book) P put≢idle i E in
       let locks = put-locks (O .nodes) (O .book) P bound room i 0 free in

@@ -138,7 +138,7 @@ module _ (w : Store) (reached : Reached w) (rest : Resting w) (bound : ℕ) (eno
       let m = memoryIn w in
       let o = put alone i bound m k v t draw in
       let n = stepsOf bound m k (o .answer) (topOf draw) in
-      let free = unlocked-frees w reached (rest-unlocks w reached rest) bound enough k (topOf draw) lawful (top-at-most draw) in
+      let free = unlocked-frees w reached (rest-unlocks w reached rest) bound enough k (topOf draw) (o .answer) lawful (top-at-most draw) in
       let q = put-alone w reached bound enough i k v t draw (w .state .events + 1) free
       (starts-put w lives i k below lawful (resting-idle lives rest i) (omega arith) v t draw) (omega arith) in
       record {

@@ -13,9 +13,9 @@ use Rattle.model.specs.History.{History, startPut, withState, perform, sawStep}
 use Rattle.model.proofs.Live.{memory, Live}
 use Rattle.model.proofs.Stepped.{step-live}
 use Rattle.figure.specs.Types.{Call, State, Wait, Stepping}
-use Rattle.figure.specs.Figure.{alone, put, leftBelow}
+use Rattle.figure.specs.Figure.{put}
 use Rattle.figure.specs.Steps.{searchSteps}
-use Rattle.figure.specs.Alone.{Turned, turned, memoryIn, waits, waited, Waits, PutWaits}
+use Rattle.figure.specs.Alone.{leftBelow, Turned, turned, memoryIn, waits, waited, Waits, PutWaits}
 use Rattle.figure.proofs.Runs.{Place, at-place, stepped, Waiting}
 use Rattle.figure.proofs.Walking.{put-call, asked-put}
 use Rattle.figure.proofs.Putting.{put-waits}
@@ -95,5 +95,5 @@ put-waits-alone w reached bound enough i k v t draw l begun-at le free taken new
     let n = searchSteps bound m k + 1 + 5 * l in
     let e = put-waits (c .nodes) (c .book) (asked-put k v t draw now (a .range)) bound enough i now l le free taken new in
     rw (a .state-is, a .start-is)
-    (waits-there w i call (l₁ .live) (a .below) refl n (leftBelow alone i bound m k v t (topOf draw) l) e
+    (waits-there w i call (l₁ .live) (a .below) refl n (leftBelow i bound m k v t (topOf draw) l) e
     (omega (arith, a .start-is)))

@@ -18,7 +18,8 @@ use Rattle.model.proofs.Tests.{if-yes, if-no, by-eq}
 use Rattle.model.proofs.Words.{word-same, word-other}
 use Rattle.model.proofs.Invariant.{Ghost, Nodes, Book}
 use Rattle.figure.specs.Types.{Put, Lock, Release, Answer, TooOld, VersionsFull, Added, KeysFull, New, Found, None, Call, End}
-use Rattle.figure.specs.Figure.{HMAX, head, Pair, findAll, Inserted, release, alone, insertAbove, insertAll, putH, leftBelow}
+use Rattle.figure.specs.Figure.{HMAX, head, Pair, findAll, Inserted, release, alone, insertAbove, insertAll, putH}
+use Rattle.figure.specs.Alone.{Free, leftBelow}
 use Rattle.figure.specs.Steps.{hopsDown, searchSteps, stepsAfter, stepsOf}
 use Rattle.figure.proofs.Search.{Finds, at-head, all-finds, all-next}
 use Rattle.figure.proofs.Runs.{at-place, Run, run-on, run-same, Ended, Waiting}
@@ -250,7 +251,7 @@ module _ {m : Memory} {g : Ghost} {b : Map} (N : Nodes m g) (B : Book m b) {call
   pub put-waits : (l : ℕ) → l ≤ h → ((j : ℕ) → j < l → lock (m .nodes) j (path j) ≡ 0) → lock (m .nodes) l (path l) ≢ 0
       → (l ≢ 0 → putH alone i bound m k (call .value) (call .timestamp) h .answer ≡ New)
       → Waiting i start (searchSteps bound m k + 1 + 5 * l) (at-place (begun call) m)
-      (leftBelow alone i bound m k (call .value) (call .timestamp) h l)
+      (leftBelow i bound m k (call .value) (call .timestamp) h l)
   unfolding putH leftBelow
   put-waits zero le free taken new =
       subst (λ n. Waiting i start n (at-place (begun call) m) m) (sym (add-zero (searchSteps bound m k + 1))) (waits-low taken)
@@ -263,14 +264,21 @@ module _ {m : Memory} {g : Ghost} {b : Map} (N : Nodes m g) (B : Book m b) {call
 
   -- ---- the whole put, where the locks that it needs are free
 
-  module _ (free : (l : ℕ) → l ≤ h → lock (m .nodes) l (path l) ≡ 0) where
+  module _ (free : Free bound m k h (putH alone i bound m k (call .value) (call .timestamp) h .answer)) where
+    free₀ : lock (m .nodes) 0 (path 0) ≡ 0
+    free₀ = free 0 (omega arith) (λ ne. absurd (ne refl))
+
+    all-free : Makes m call i (path 0) o → (l : ℕ) → l ≤ h → lock (m .nodes) l (path l) ≡ 0
+    unfolding putH
+    all-free M l le = free l le (λ _. answers h (P .top-high) ∙ M .answer)
+
     pub put-ends : Ends (putH alone i bound m k (call .value) (call .timestamp) h)
     unfolding putH
-    put-ends = by (low (free 0 (omega arith)) .1)
+    put-ends = by (low free₀ .1)
       where
         by : Settles m i (path 0) o ⊎ Makes m call i (path 0) o → Ends (out h)
-        by (inl s) = rw (settled-out s h (P .top-high)) (settled-ends (free 0 (omega arith)) s)
-        by (inr M) = made-ends (all-up M h (omega arith) free)
+        by (inl s) = rw (settled-out s h (P .top-high)) (settled-ends free₀ s)
+        by (inr M) = made-ends (all-up M h (omega arith) (all-free M))
 
     -- ---- its locks are free again
 
@@ -291,7 +299,7 @@ module _ {m : Memory} {g : Ghost} {b : Map} (N : Nodes m g) (B : Book m b) {call
         kept hx = by-eq x q
             (λ ex. by-eq l 0
             (λ el. rw (ex, el) (word-same (o .memory .nodes) q 10 0 (omega arith) (omega (arith, s .size, N .size, N .room, used))
-            ∙ sym (free 0 (omega arith))))
+            ∙ sym free₀))
             (λ nl. other (λ e. omega arith)))
             (λ nx. other (λ e. absurd (nx e)))
           where
@@ -311,8 +319,8 @@ module _ {m : Memory} {g : Ghost} {b : Map} (N : Nodes m g) (B : Book m b) {call
 
     pub put-locks : LocksKept (putH alone i bound m k (call .value) (call .timestamp) h .memory)
     unfolding putH
-    put-locks = by (low (free 0 (omega arith)) .1)
+    put-locks = by (low free₀ .1)
       where
         by : Settles m i (path 0) o ⊎ Makes m call i (path 0) o → LocksKept (out h .memory)
         by (inl s) = rw (settled-out s h (P .top-high)) (settled-locks s)
-        by (inr M) = made-locks (all-up M h (omega arith) free)
+        by (inr M) = made-locks (all-up M h (omega arith) (all-free M))

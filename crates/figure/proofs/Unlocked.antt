@@ -11,7 +11,7 @@ use Rattle.model.proofs.Tests.{by-le}
 use Rattle.model.proofs.Laws.{top-at-most}
 use Rattle.model.proofs.Live.{slot, status-is}
 use Rattle.figure.specs.Types.{Kind, Idle, Put, Get, Process, Status}
-use Rattle.figure.specs.Figure.{HMAX, MAX, head, put}
+use Rattle.figure.specs.Figure.{HMAX, MAX, head, alone, put}
 use Rattle.figure.specs.Alone.{memoryIn, Resting, RestUnlocks, UnlockedFrees, PutUnlocks}
 use Rattle.figure.proofs.Search.{at-head, all-finds}
 use Rattle.figure.proofs.Walking.{asked-put}
@@ -44,7 +44,7 @@ pub key-range : (k : ℕ) → lawfulKey k ≡ true → (1 ≤ k) × (k < MAX)
 key-range k e = let f = simp and-eq-true-iff at e in (leb-true 1 k (f .0), omega (arith, leb-true k (limits .key) (f .1)))
 
 pub unlocked-frees : UnlockedFrees
-unlocked-frees w reached free bound enough k h lawful h5 l le =
+unlocked-frees w reached free bound enough k h a lawful h5 l le _ =
     let lives = reached-lives reached in
     let r = key-range k lawful in
     let m = memoryIn w in
@@ -56,6 +56,7 @@ pub put-unlocks : PutUnlocks
 unfolding put
 put-unlocks w reached free bound enough i k v t draw lawful l x l5 hx =
     let c = reached-lives reached .live .core in
-    let frees = unlocked-frees w reached free bound enough k (topOf draw) lawful (top-at-most draw) in
+    let a = put alone i bound (memoryIn w) k v t draw .answer in
+    let frees = unlocked-frees w reached free bound enough k (topOf draw) a lawful (top-at-most draw) in
     let kept = put-locks (c .nodes) (c .book) (asked-put k v t draw 0 (key-range k lawful)) bound enough i 0 frees l x l5 in
     by-le x (w .state .counts .nodes) (λ le. kept .0 le ∙ free l x l5 le) (λ lt. kept .1 lt hx)

@@ -8,6 +8,7 @@ use Rattle.model.specs.Calls.{topOf}
 use Rattle.model.proofs.Tests.{by-le}
 use Rattle.model.proofs.Laws.{top-at-most}
 use Rattle.model.proofs.Invariant.{Ghost, Nodes, Book}
+use Rattle.figure.specs.Types.{Answer}
 use Rattle.figure.specs.Figure.{HMAX, MAX, head, get, alone, put}
 use Rattle.figure.specs.Alone.{Free, Unlocked}
 use Rattle.figure.specs.Counted.{BoundUnseen}
@@ -29,8 +30,8 @@ module _ {m : Memory} {g : Ghost} {b : Map} (N : Nodes m g) (B : Book m b) (k : 
       (λ le. let q = ended-same E F le in rw (q .1, q .2))
       (λ lt. let q = ended-same F E (omega arith) in rw (q .1, q .2))
 
-  frees : Unlocked m → (e : ℕ) → m .counts .nodes < e → (h : ℕ) → h ≤ HMAX → Free e m k h
-  frees free e he h h5 l le =
+  frees : Unlocked m → (e : ℕ) → m .counts .nodes < e → (h : ℕ) (a : Answer) → h ≤ HMAX → Free e m k h a
+  frees free e he h a h5 l le _ =
       let f = all-finds N (range .1) e (omega arith) HMAX head l (omega arith) (at-head N (range .1) (range .0)) in
       free l _ (omega arith) (f .spot .used)
 
@@ -40,8 +41,8 @@ module _ {m : Memory} {g : Ghost} {b : Map} (N : Nodes m g) (B : Book m b) (k : 
   puts free i v t draw =
       let P = asked-put k v t draw 0 range in
       let h5 = top-at-most draw in
-      let E = put-ends N B P c hc i 0 (frees free c hc (topOf draw) h5) in
-      let F = put-ends N B P d hd i 0 (frees free d hd (topOf draw) h5) in
+      let E = put-ends N B P c hc i 0 (frees free c hc (topOf draw) (put alone i c m k v t draw .answer) h5) in
+      let F = put-ends N B P d hd i 0 (frees free d hd (topOf draw) (put alone i d m k v t draw .answer) h5) in
       by-le (E .before) (F .before)
       (λ le. let q = ended-same E F le in (q .0, q .1))
       (λ lt. let q = ended-same F E (omega arith) in (sym (q .0), sym (q .1)))

@@ -11,7 +11,7 @@ use Rattle.model.specs.State.{idleProcess, memoryOf, lawfulKey}
 use Rattle.model.specs.Calls.{openOf, startPutOf, startGetOf, topOf, Store, stepOf, counted, statusOf}
 use Rattle.model.specs.History.{Action, withState, performAll, begin}
 use Rattle.figure.specs.Types.{Put, Get, Answer, New, Opening, Starting, Stepping, Status}
-use Rattle.figure.specs.Figure.{HMAX, head, new, findAll, get, alone, put, leftBelow}
+use Rattle.figure.specs.Figure.{HMAX, head, new, findAll, get, alone, insertAll, put}
 use Rattle.figure.specs.Steps.{searchSteps, stepsOf}
 
 -- ---- steps of one process
@@ -92,9 +92,10 @@ GetAlone = (w : Store) → Reached w → (bound : ℕ) → w .state .counts .nod
 
 -- ---- put
 
--- the locks that a put of key k with top level h needs are free: at each level that of the predecessor that findAll finds
-abbrev pub Free : (bound : ℕ) → Memory → (k h : ℕ) → Type 0
-Free bound m k h = (l : ℕ) → l ≤ h → lock (m .nodes) l (findAll bound m head k HMAX l .pred) ≡ 0
+-- The locks that a put of key k with top level h and this answer needs are free: at a level that of the predecessor that findAll
+-- finds there; above the bottom it comes only where it makes a node.
+abbrev pub Free : (bound : ℕ) → Memory → (k h : ℕ) → Answer → Type 0
+Free bound m k h a = (l : ℕ) → l ≤ h → (l ≢ 0 → a ≡ New) → lock (m .nodes) l (findAll bound m head k HMAX l .pred) ≡ 0
 
 -- An accepted put, where these locks are free and with events enough for its steps, ends at the last of them without a wait. It
 -- leaves the tables and counts that the figure's put leaves, word for word, and gives its answer. It takes effect four steps
@@ -105,7 +106,7 @@ PutAlone = (w : Store) → Reached w → (bound : ℕ) → w .state .counts .nod
     let m = memoryIn w in
     let o = put alone i bound m k v t draw in
     let n = stepsOf bound m k (o .answer) (topOf draw) in
-    Free bound m k (topOf draw) → begun .outcome ≡ Starting.Started start → start + n ≤ w .state .limit
+    Free bound m k (topOf draw) (o .answer) → begun .outcome ≡ Starting.Started start → start + n ≤ w .state .limit
     → turned (withState w (begun .state)) i n ≡ record {
       outcomes = moves (start + 1) (n - 1) ++ (Stepping.Finished (record {
         kind = Put;
@@ -132,7 +133,8 @@ RestUnlocks = (w : Store) → Reached w → Resting w → Unlocked (memoryIn w)
 
 abbrev pub UnlockedFrees : Type 0
 UnlockedFrees = (w : Store) → Reached w → Unlocked (memoryIn w)
-    → (bound : ℕ) → w .state .counts .nodes < bound → (k h : ℕ) → lawfulKey k ≡ true → h ≤ HMAX → Free bound (memoryIn w) k h
+    → (bound : ℕ) → w .state .counts .nodes < bound → (k h : ℕ) (a : Answer) → lawfulKey k ≡ true → h ≤ HMAX
+    → Free bound (memoryIn w) k h a
 
 abbrev pub PutUnlocks : Type 0
 PutUnlocks = (w : Store) → Reached w → Unlocked (memoryIn w)
@@ -171,6 +173,12 @@ pub record Waits (begun : Store) (i start n : ℕ) (left : Memory) : Type 0 wher
       → turned (turned begun i n .store) i more
       ≡ record { outcomes = waits (start + n + 1) more; store = waited (turned begun i n .store) more }
 
+-- What the figure's put has left of memory when it comes to the lock of level l: at the bottom nothing is written yet, and above
+-- it the levels below are done.
+unfoldable pub leftBelow : (i bound : ℕ) → Memory → (k v t h l : ℕ) → Memory
+leftBelow i bound m k v t h zero = m
+leftBelow i bound m k v t h (suc l) = insertAll alone i bound m (findAll bound m head k HMAX l .pred) k v t h l .memory
+
 -- Of the locks that a put needs, that of level l is the first that is held; it comes there if l is 0 or it makes a node.
 abbrev pub PutWaits : Type 0
 PutWaits = (w : Store) → Reached w → (bound : ℕ) → w .state .counts .nodes < bound → (i k v t draw l start : ℕ)
@@ -182,7 +190,7 @@ PutWaits = (w : Store) → Reached w → (bound : ℕ) → w .state .counts .nod
     → lock (m .nodes) l (findAll bound m head k HMAX l .pred) ≢ 0
     → (l ≢ 0 → put alone i bound m k v t draw .answer ≡ New)
     → begun .outcome ≡ Starting.Started start → start + n ≤ w .state .limit
-    → Waits (withState w (begun .state)) i start n (leftBelow alone i bound m k v t h l)
+    → Waits (withState w (begun .state)) i start n (leftBelow i bound m k v t h l)
 
 -- ---- new
 

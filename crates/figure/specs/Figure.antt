@@ -2,8 +2,8 @@
 -- its own name and under a quotation of its lines. Nothing here knows of steps.
 -- A pointer to a node is the node's number: node 0 is the left sentinel, and as a successor 0 is the right one, which has no
 -- record. A pointer to a value is the version's index, and NULL is 0.
--- Added to the figure, each said where it enters: the fixed tables and their "full" answers, the bound of a recursion, whose a
--- lock is, and what others do while `acquire` waits.
+-- Added to the figure, each said where it enters: the fixed tables and their "full" answers; and, since these are functions of
+-- memory, the bound of a recursion, the process that runs it, and what others do while `acquire` waits.
 use Prim.Native.Nat.{ℕ, zero, suc, _+_, _*_}
 use mathlib.Core.List.{List, _∷_, _++_}
 use mathlib.Core.Option.{Option, none, some}
@@ -115,7 +115,8 @@ find (suc bound) m pred k lvl =
 --   let (pred, succ) = find pred k lvl in
 --   if lvl = h then (pred, succ)
 --   else findAll pred k (lvl - 1) h
--- It is called with h at most lvl, so level 0 is the last.
+-- It is called with h at most lvl, so level 0 is the last. The text beside the figure lets a search end where it meets the key in
+-- an upper level; the figure goes to level h always, and document 01 says: "the figure decides".
 unfoldable pub findAll : (bound : ℕ) → Memory → (pred k lvl h : ℕ) → Pair
 findAll bound m pred k zero h = find bound m pred k 0
 findAll bound m pred k (suc l) h =
@@ -214,13 +215,14 @@ pub record Locked : Type 0 where
 abbrev pub release : Memory → (pred lvl : ℕ) → Memory
 release m pred lvl = withNodes m (withLock (m .nodes) lvl pred newlock)
 
--- what others do while a call waits for a lock that it finds free: nothing
+-- what others do where a call is alone: nothing
 abbrev pub alone : Memory → Memory
 alone m = m
 
--- A lock names its holder: the procedures below are run by process i. While one of them waits for a lock, `others` run.
+-- The procedures below are run by process i: document 01's lock names its holder.
 module _ (others : Memory → Memory) (i : ℕ) where
-  -- acquire lock
+  -- acquire lock: it waits until the lock is free and takes it, in the memory that `others` have made by then. (Where nobody
+  -- frees it the figure waits for ever, and so do the steps: `PutWaits`.)
   abbrev pub acquire : Memory → (pred lvl : ℕ) → Memory
   acquire m pred lvl = withNodes (others m) (withLock (others m .nodes) lvl pred (i + 1))
 
@@ -304,9 +306,3 @@ module _ (others : Memory → Memory) (i : ℕ) where
   -- There is no random source: the level is that of the call's draw.
   unfoldable pub put : (bound : ℕ) → Memory → (k v t draw : ℕ) → Inserted
   put bound m k v t draw = putH bound m k v t (topOf draw)
-
-  -- what putH has left of memory when it comes to the lock of level lvl: at the bottom nothing is written yet, above it the
-  -- levels below are done
-  unfoldable pub leftBelow : (bound : ℕ) → Memory → (k v t h lvl : ℕ) → Memory
-  leftBelow bound m k v t h zero = m
-  leftBelow bound m k v t h (suc l) = insertAll bound m (findAll bound m head k HMAX l .pred) k v t h l .memory
