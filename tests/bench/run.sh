@@ -21,7 +21,7 @@ run() {
     instructions=$(sed -n 's/^totals: //p' "$out")
 }
 
-ratio() { awk -v a="$1" -v b="$2" 'BEGIN { printf b ? "%.1f" : "-", a / b }'; }
+ratio() { awk -v a="$1" -v b="$2" 'BEGIN { printf a < 1000 * b ? "%.1f" : "%.0f", a / b }'; }
 
 # row LABEL CALL WORKLOAD DIVISOR KEYS VERSIONS: instructions of each implementation, divided by `made` or `steps`.
 row() {

@@ -1,6 +1,6 @@
 -- Steps and starts in place: what is left of one process, put into the words, is what the store's call leaves, encoded.
 use Prim.Native.Nat.{ℕ, _+_, _-_, _*_, _<_}
-use mathlib.Core.Bool.{true, false}
+use mathlib.Core.Bool.{Bool, true, false}
 use mathlib.Core.List.{List}
 use mathlib.Core.Path.{_≡_, refl, sym, ap, _∙_}
 use native.Mathlib.Omega.{arith}
@@ -8,6 +8,7 @@ use lib.ListN.{length, getD, take, drop}
 use lib.Seq.{getD-take, getD-drop, drop-drop}
 use borrow.Rule.Slice.PartMut.{putMid, put-same}
 use Rattle.model.specs.declared.types.Call.{Call}
+use Rattle.model.specs.declared.types.Counts.{Counts}
 use Rattle.model.specs.declared.types.Move.{Move}
 use Rattle.model.specs.declared.types.Move.the-variants.{Refuse}
 use Rattle.model.specs.declared.types.Permit.{Permit}
@@ -19,20 +20,19 @@ use Rattle.model.specs.declared.types.Starting.{Starting}
 use Rattle.model.specs.declared.types.Stepping.{Stepping}
 use Rattle.model.specs.Layout.{Memory, limits}
 use Rattle.model.specs.Phases.{Moved, moved, turnOf}
-use Rattle.model.specs.State.{processAt, withEvent}
+use Rattle.model.specs.State.{processAt, withEvent, lawfulStore}
 use Rattle.model.specs.Calls.{processAfter, outcomeOf, tallyAfter, begun, startBy, Store, stepPermit, stepBy, stepOf}
 use Rattle.tables.specs.Room.{memory}
 use Rattle.phases.specs.Turn.{refuses}
-use Rattle.permits.specs.declared.header.Header.{Header}
-use Rattle.permits.specs.Header.{headerOf, storeOf}
+use Rattle.permits.specs.Header.{headerWords, headerOf, storeOf}
 use Rattle.store.specs.Advance.{Advance, advanceBy, advanceOf}
 use Rattle.store.proofs.Laws.{refused-is, refused-advance, moved-advance, step-stays, step-moves}
 use Rattle.words.specs.Numbers.{kindOf}
-use Rattle.words.specs.Layout.{sizes, processWords, stateWords, processFrom, stateFrom, knownProcess, isState, isStateAt, startOf, part, written}
+use Rattle.words.specs.Layout.{sizes, processWords, stateWords, processFrom, stateFrom, knownProcess, knownHead, isState, isStateAt, startOf, part, written}
 use Rattle.words.proofs.Laws.{process-back, process-at, state-facts, state-back, putProcess, putEvent, event-words}
-use Rattle.words.proofs.Known.{part-is, part-long}
+use Rattle.words.proofs.Known.{part-is, part-long, by-none}
 use Rattle.words.proofs.Whole.{put-part}
-use Rattle.words.proofs.Written.{part-facts, written-same, written-event}
+use Rattle.words.proofs.Written.{part-facts, header-at, written-same, written-event}
 use Rattle.inplace.specs.Advance.{AdvanceIn, encoded, advanceIn}
 use Rattle.inplace.specs.Calls.{StartIn, startUnless, StepIn, stepWritten, stepIn}
 
@@ -92,6 +92,10 @@ module _ (w nodes versions tally : List ℕ) (i : ℕ) where
   unfolding stepIn
   step-unknown e = simp e
 
+  pub step-headless : knownHead w ≡ false → unchanged Corrupt w nodes versions tally ≡ stepIn w nodes versions tally i
+  unfolding isStateAt
+  step-headless e = step-unknown (simp e)
+
   module _ (known : isStateAt w i ≡ true) where
     in-words : stepWritten w i (stepOf store i) ≡ stepIn w nodes versions tally i
     unfolding stepIn
@@ -104,17 +108,23 @@ module _ (w nodes versions tally : List ℕ) (i : ℕ) where
     pub step-denied : (r : Refusal) → stepPermit store i ≡ Denied r → unchanged r w nodes versions tally ≡ stepIn w nodes versions tally i
     step-denied r e = denied r e ∙ in-words
 
+    denied-corrupt : lawfulStore (stateFrom w) nodes versions ≡ false → stepPermit store i ≡ Denied Corrupt
+    unfolding stepPermit
+    denied-corrupt e = simp e
+
     -- what is left of the process that stands in its part of the words
     module _
         (j : ℕ)
-        (h : Header)
+        (events : ℕ)
+        (counts : Counts)
         (a : AdvanceIn)
-        (header : h ≡ headerOf (stateFrom w))
+        (now : events ≡ stateFrom w .events)
+        (used : counts ≡ stateFrom w .counts)
         (granted : stepPermit store i ≡ Granted)
         (slot : j ≡ i)
         (few : i < limits .processes)
-        (is : a ≡ advanceIn (i + 1) (h .events + 1) (take (startOf j + sizes .process - startOf j) (drop (startOf j) w))
-        (memory nodes versions (h .counts)) tally)
+        (is : a ≡ advanceIn (i + 1) (events + 1) (take (startOf j + sizes .process - startOf j) (drop (startOf j) w))
+        (memory nodes versions counts) tally)
       where
         abbrev lent : List ℕ
         lent = putMid (startOf j) (startOf j + sizes .process - startOf j) w (a .words)
@@ -128,9 +138,10 @@ module _ (w nodes versions tally : List ℕ) (i : ℕ) where
         same : a ≡ encoded advance
         unfolding advance
         same =
-            is ∙ ap (λ h. advanceIn (i + 1) (h .events + 1) (take (startOf j + 18 - startOf j) (drop (startOf j) w))
-            (memory nodes versions (h .counts)) tally) header
-            ∙ ap (λ p. encoded (advanceOf (i + 1) (stateFrom w .events + 1) p (memory nodes versions (stateFrom w .counts)) tally)) found
+            is
+            ∙ ap (λ e. advanceIn (i + 1) (e + 1) (take (startOf j + 18 - startOf j) (drop (startOf j) w)) (memory nodes versions counts) tally) now
+            ∙ ap (λ p. encoded (advanceOf (i + 1) (stateFrom w .events + 1) p (memory nodes versions counts) tally)) found
+            ∙ ap (λ k. encoded (advanceOf (i + 1) (stateFrom w .events + 1) (processAt (stateFrom w) j) (memory nodes versions k) tally)) used
 
         abbrev left : AdvanceIn → (words : List ℕ) → StepIn
         left a v = record {
@@ -166,20 +177,33 @@ module _ (w nodes versions tally : List ℕ) (i : ℕ) where
 
         -- moved: the part that it leaves, and the counts
         pub step-moves-in : (v : List ℕ) → length (a .words) ≡ sizes .process → a .refused ≡ false
-            → v ≡ putEvent lent (h .events + 1) (a .memory .counts) → left a v ≡ stepIn w nodes versions tally i
+            → v ≡ putEvent lent (events + 1) (a .memory .counts) → left a v ≡ stepIn w nodes versions tally i
         unfolding advance
         step-moves-in v long e put =
             let p = advance .process in
-            let counts = advance .memory .counts in
+            let after = advance .memory .counts in
             let long-p : length (processWords p) ≡ 18 = ap (λ a. length (a .words)) (sym same) ∙ long in
             ap (left a) put
-            ∙ ap (λ h. left a (putEvent lent (h .events + 1) (a .memory .counts))) header
+            ∙ ap (λ e. left a (putEvent lent (e + 1) (a .memory .counts))) now
             ∙ ap (λ a. left a (putEvent (putMid (startOf j) (startOf j + 18 - startOf j) w (a .words)) (stateFrom w .events + 1) (a .memory .counts))) same
-            ∙ ap (λ v. left (encoded advance) (putEvent v (stateFrom w .events + 1) counts))
+            ∙ ap (λ v. left (encoded advance) (putEvent v (stateFrom w .events + 1) after))
             (put-part w (processWords p) (startOf j) ∙ ap (λ k. putProcess w k (processWords p)) slot)
-            ∙ ap (left (encoded advance)) (written-event w i p counts known few long-p ∙ ap (λ k. written w i (withEvent (stateFrom w) k counts p)) (sym slot))
+            ∙ ap (left (encoded advance)) (written-event w i p after known few long-p ∙ ap (λ k. written w i (withEvent (stateFrom w) k after p)) (sym slot))
             ∙ ap (stepWritten w i) (step-moves store i j (stateFrom w .counts) slot refl granted advance refl (sym (ap (λ a. a .refused) same) ∙ e))
             ∙ in-words
+
+-- whatever the process's words are, an unlawful head is refused 10
+pub step-unlawful : (w nodes versions tally : List ℕ) (i : ℕ) → lawfulStore (stateFrom w) nodes versions ≡ false
+    → unchanged Corrupt w nodes versions tally ≡ stepIn w nodes versions tally i
+step-unlawful w nodes versions tally i e = cases (isStateAt w i) refl
+  where
+    cases : (b : Bool) → isStateAt w i ≡ b → unchanged Corrupt w nodes versions tally ≡ stepIn w nodes versions tally i
+    cases false k = step-unknown w nodes versions tally i k
+    cases true k = step-denied w nodes versions tally i k Corrupt (denied-corrupt w nodes versions tally i k e)
+
+-- the header behind a known first word
+pub header-known : (w : List ℕ) → knownHead w ≡ true → headerOf (stateFrom w) ≡ take headerWords (drop 1 w)
+header-known w k = header-at w 8 (sym (by-none w 8 (knownHead w) refl k (omega arith)))
 
 -- ---- start
 
@@ -205,23 +229,23 @@ module _ (w : List ℕ) (i : ℕ) (permit : Permit) (call : ℕ → Call) where
     begun-in e = simp (known, e)
 
     -- the process at its walk, put into its part, and the count of events
-    pub start-granted : (j : ℕ) (h : Header) (p v : List ℕ) → permit ≡ Granted → h ≡ headerOf (stateFrom w) → j ≡ i
-        → i < limits .processes → p ≡ processWords (begun (call (h .events + 1)))
-        → v ≡ putEvent (putMid (startOf j) (startOf j + sizes .process - startOf j) w p) (h .events + 1) (h .counts)
-        → record { outcome = Starting.Started (h .events + 1); words = v } ≡ begins
-    start-granted j h p v e header slot few is put =
+    pub start-granted : (j events : ℕ) (counts : Counts) (p v : List ℕ) → permit ≡ Granted → events ≡ stateFrom w .events
+        → counts ≡ stateFrom w .counts → j ≡ i → i < limits .processes → p ≡ processWords (begun (call (events + 1)))
+        → v ≡ putEvent (putMid (startOf j) (startOf j + sizes .process - startOf j) w p) (events + 1) counts
+        → record { outcome = Starting.Started (events + 1); words = v } ≡ begins
+    start-granted j events counts p v e now used slot few is put =
         let q = begun (call (stateFrom w .events + 1)) in
-        ap (λ v. record { outcome = Starting.Started (h .events + 1); words = v })
-        (put ∙ ap (λ p. putEvent (putMid (startOf j) (startOf j + 18 - startOf j) w p) (h .events + 1) (h .counts)) is)
-        ∙ ap (λ h. record {
-          outcome = Starting.Started (h .events + 1);
-          words = putEvent (putMid (startOf j) (startOf j + 18 - startOf j) w (processWords (begun (call (h .events + 1)))))
-              (h .events + 1) (h .counts);
+        ap (λ v. record { outcome = Starting.Started (events + 1); words = v })
+        (put ∙ ap (λ p. putEvent (putMid (startOf j) (startOf j + 18 - startOf j) w p) (events + 1) counts) is)
+        ∙ ap (λ e. record {
+          outcome = Starting.Started (e + 1);
+          words = putEvent (putMid (startOf j) (startOf j + 18 - startOf j) w (processWords (begun (call (e + 1))))) (e + 1) counts;
         })
-        header
+        now
         ∙ ap (λ v. record { outcome = Starting.Started (stateFrom w .events + 1); words = v })
-        (ap (λ v. putEvent v (stateFrom w .events + 1) (stateFrom w .counts))
+        (ap (λ v. putEvent v (stateFrom w .events + 1) counts)
         (put-part w (processWords q) (startOf j) ∙ ap (λ k. putProcess w k (processWords q)) slot)
+        ∙ ap (putEvent (putProcess w i (processWords q)) (stateFrom w .events + 1)) used
         ∙ event-words w i q (stateFrom w .counts) known few)
         ∙ begun-in e
 

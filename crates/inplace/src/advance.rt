@@ -16,9 +16,6 @@ use store::tally::count_end;
 use turn::turn::turn;
 use words::process::apply;
 use words::process::call_in;
-use words::process::cursor_in;
-use words::process::effect_in;
-use words::process::preds_in;
 
 // `holder` is the process's number plus 1, `tick` that of this event.
 pub fn advance(
@@ -36,21 +33,7 @@ pub fn advance(
     requires { ⌜ length (now tally) ≡ limits .answers ⌝ }
     ensures { λ r. ⌜ advanced r (now (w .exit)) (now (nodes .exit)) (now (versions .exit)) (now (tally .exit)) ≡ advanceIn holder tick (now (w .entry)) (memory (now (nodes .entry)) (now (versions .entry)) counts) (now (tally .entry)) ⌝ }
 {
-    let call = call_in(w);
-    let cursor = cursor_in(w);
-    let effect = effect_in(w);
-    let preds = preds_in(w);
-    let t = turn(
-        call,
-        cursor,
-        effect,
-        preds,
-        counts,
-        holder,
-        tick,
-        nodes,
-        versions,
-    );
+    let t = turn(w, counts, holder, tick, nodes, versions);
     let mv = t.mv;
     let left = t.counts;
     if is_refusal(mv) {
@@ -61,8 +44,9 @@ pub fn advance(
         };
     }
     count_end(tally, mv);
-    apply(w, tick, mv);
+    let call = call_in(w);
     let outcome = outcome_of(tick, call, mv);
+    apply(w, tick, mv);
     Advanced {
         refused: false,
         outcome,

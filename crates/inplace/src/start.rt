@@ -15,7 +15,7 @@ use store::start::begin;
 use store::start::top_of;
 use words::numbers::kind_of;
 use words::process::put_process;
-use words::state::header_in;
+use words::state::counts_in;
 use words::state::is_state;
 use words::state::put_event;
 use words::types::Sizes;
@@ -36,15 +36,14 @@ fn start_in(
     if !is_state(words) {
         return Starting::Refused(Refusal::Corrupt);
     }
-    let h = header_in(words);
     let at = Sizes::HEAD + Sizes::PROCESS * slot(process);
     let held = kind_of(words[at]);
-    let permit = start_permit(h, held, nodes, versions, process, key);
+    let permit = start_permit(&words[1..Sizes::HEAD], held, nodes, versions, process, key);
     match permit {
         Permit::Denied(refusal) => Starting::Refused(refusal),
         Permit::Granted => {
             let end = at + Sizes::PROCESS;
-            let tick = h.events + 1;
+            let tick = words[4] + 1;
             let call = Call {
                 kind,
                 key,
@@ -54,7 +53,7 @@ fn start_in(
                 start: tick,
             };
             let begun = begin(call);
-            let counts = h.counts;
+            let counts = counts_in(words);
             put_process(&mut words[at..end], begun);
             put_event(words, tick, counts);
             Starting::Started(tick)

@@ -20,6 +20,11 @@ use Rattle.model.specs.Inspection.{idleBelow}
 use Rattle.model.proofs.Laws.{granted-iff}
 use Rattle.model.proofs.Tests.{leb-iff, eqb-iff}
 
+-- one test that fails is enough
+pub and-false : (b : Bool) → (b && false) ≡ false
+and-false true = refl
+and-false false = refl
+
 -- n - 1 is 0 for n = 0 too, so nothing in use is always within it
 pub in-use : (used all : ℕ) → eqb used 0 || ltb used all ≡ leb used (all - 1)
 in-use used all = cases (eqb used 0) (ltb used all) refl refl

@@ -1,31 +1,21 @@
 // What the refusals read of a state.
 ghost use mathlib.Core.Path.{_≡_};
 ghost use Rattle.permits.specs.Header.{headerOf};
-use model::types::Counts;
-use model::types::Lengths;
 use model::types::State;
 
-// The state without its processes: a state is 576 bytes, and this is 32.
-pub struct Header {
-    pub opened: bool,
-    pub processes: u32,
-    pub limit: u32,
-    pub events: u32,
-    pub lengths: Lengths,
-    pub counts: Counts,
-}
-
-pub fn header_of(s: State) -> Header
+// The state without its processes, as eight words in the order in which a state lies in lent words: whether it is open,
+// processes, limit, events, lengths of both tables, nodes and versions in use.
+pub fn header_of(s: State) -> [u32; 8]
     ensures { λ r. ⌜ r ≡ headerOf s ⌝ }
 {
-    let lengths = s.lengths;
-    let counts = s.counts;
-    Header {
-        opened: s.opened,
-        processes: s.processes,
-        limit: s.limit,
-        events: s.events,
-        lengths,
-        counts,
-    }
+    [
+        s.opened as u32,
+        s.processes,
+        s.limit,
+        s.events,
+        s.lengths.nodes,
+        s.lengths.versions,
+        s.counts.nodes,
+        s.counts.versions,
+    ]
 }

@@ -2,10 +2,10 @@
 ghost use mathlib.Core.Path.{_≡_};
 ghost use Prim.Native.Nat.{_-_};
 ghost use lib.Dec.{leb};
+ghost use lib.ListN.{length};
 ghost use Rattle.model.specs.declared.types.State.{State};
 ghost use Rattle.model.specs.State.{within, lawfulNodes, lawfulVersions, lawfulState, lawfulStore};
-ghost use Rattle.permits.specs.Header.{headerOf};
-use crate::header::Header;
+ghost use Rattle.permits.specs.Header.{headerWords, headerOf};
 use model::types::State;
 
 pub fn within(low: u32, high: u32, n: u32) -> bool
@@ -39,26 +39,51 @@ fn in_use(used: u32, all: u32) -> bool
     (used == 0) | (used < all)
 }
 
-pub fn lawful_state(h: Header) -> bool
-    ensures { λ r. ⌜ ((s : State) → headerOf s ≡ h → r ≡ lawfulState s) ⌝ }
+fn wide(n: u32) -> usize
+    ensures { λ r. ⌜ r ≡ n ⌝ }
 {
-    let nodes = h.lengths.nodes;
-    let versions = h.lengths.versions;
-    h.opened
-        & within(1, State::PROCESSES, h.processes)
-        & within(1, State::EVENTS, h.limit)
-        & (h.events <= h.limit)
-        & lawful_nodes(nodes as usize)
-        & lawful_versions(versions as usize)
-        & in_use(h.counts.nodes, nodes / State::NODE_WORDS)
-        & in_use(h.counts.versions, versions / State::VERSION_WORDS)
+    n as usize
+}
+
+// Left at the first fault: every step asks this.
+pub fn lawful_state(h: &[u32]) -> bool
+    requires { ⌜ length (now h) ≡ headerWords ⌝ }
+    ensures { λ r. ⌜ ((s : State) → headerOf s ≡ now (h .entry) → r ≡ lawfulState s) ⌝ }
+{
+    if h[0] != 1 {
+        return false;
+    }
+    if !within(1, State::PROCESSES, h[1]) {
+        return false;
+    }
+    if !within(1, State::EVENTS, h[2]) {
+        return false;
+    }
+    if h[2] < h[3] {
+        return false;
+    }
+    if !lawful_nodes(wide(h[4])) {
+        return false;
+    }
+    if !lawful_versions(wide(h[5])) {
+        return false;
+    }
+    if !in_use(h[6], h[4] / State::NODE_WORDS) {
+        return false;
+    }
+    in_use(h[7], h[5] / State::VERSION_WORDS)
 }
 
 // The state is lawful, and the tables lent are of its lengths.
-pub fn lawful_store(h: Header, nodes: &[u32], versions: &[u32]) -> bool
-    ensures { λ r. ⌜ ((s : State) → headerOf s ≡ h → r ≡ lawfulStore s (now (nodes .entry)) (now (versions .entry))) ⌝ }
+pub fn lawful_store(h: &[u32], nodes: &[u32], versions: &[u32]) -> bool
+    requires { ⌜ length (now h) ≡ headerWords ⌝ }
+    ensures { λ r. ⌜ ((s : State) → headerOf s ≡ now (h .entry) → r ≡ lawfulStore s (now (nodes .entry)) (now (versions .entry))) ⌝ }
 {
-    lawful_state(h)
-        & (nodes.len() == h.lengths.nodes as usize)
-        & (versions.len() == h.lengths.versions as usize)
+    if !lawful_state(h) {
+        return false;
+    }
+    if nodes.len() != wide(h[4]) {
+        return false;
+    }
+    versions.len() == wide(h[5])
 }

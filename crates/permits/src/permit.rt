@@ -8,8 +8,8 @@ ghost use Rattle.model.specs.Layout.{limits};
 ghost use Rattle.model.specs.State.{isIdle};
 ghost use Rattle.model.specs.Calls.{denyIf, openPermit, startPermit, stepPermit, lookPermit, statusPermit};
 ghost use Rattle.model.specs.Inspection.{idleBelow, inspectPermit};
-ghost use Rattle.permits.specs.Header.{headerOf, Shows, storeOf};
-use crate::header::Header;
+ghost use Rattle.permits.specs.Header.{headerWords, headerOf, Shows, storeOf};
+ghost use lib.ListN.{length};
 use crate::header::header_of;
 use crate::lawful::lawful_nodes;
 use crate::lawful::lawful_state;
@@ -62,20 +62,21 @@ pub fn open_permit(nodes: &[u32], versions: &[u32], processes: u32, limit: u32) 
 
 // `kind` is that of the process's call.
 pub fn start_permit(
-    h: Header,
+    h: &[u32],
     kind: Kind,
     nodes: &[u32],
     versions: &[u32],
     process: u32,
     key: u32,
 ) -> Permit
-    ensures { λ r. ⌜ ((s : State) → Shows s process h kind → r ≡ startPermit s (now (nodes .entry)) (now (versions .entry)) process key) ⌝ }
+    requires { ⌜ length (now h) ≡ headerWords ⌝ }
+    ensures { λ r. ⌜ ((s : State) → Shows s process (now (h .entry)) kind → r ≡ startPermit s (now (nodes .entry)) (now (versions .entry)) process key) ⌝ }
 {
     let lawful = lawful_store(h, nodes, versions);
-    let no_process = h.processes <= process;
+    let no_process = h[1] <= process;
     let lawful_key = within(1, State::KEY, key);
     let idle = is_idle(kind);
-    let spent = h.limit <= h.events;
+    let spent = h[2] <= h[3];
     let nine = deny_if(spent, Refusal::Spent, Permit::Granted);
     let seven = deny_unless(idle, Refusal::Busy, nine);
     let six = deny_unless(lawful_key, Refusal::BadKey, seven);
@@ -83,29 +84,39 @@ pub fn start_permit(
     deny_unless(lawful, Refusal::Corrupt, five)
 }
 
-// `kind` is that of the process's call.
+// `kind` is that of the process's call. Left at the first refusal: it is asked most.
 pub fn step_permit(
-    h: Header,
+    h: &[u32],
     kind: Kind,
     nodes: &[u32],
     versions: &[u32],
     tally: &[u32],
     process: u32,
 ) -> Permit
-    ensures { λ r. ⌜ ((s : State) → Shows s process h kind → r ≡ stepPermit (storeOf s (now (nodes .entry)) (now (versions .entry)) (now (tally .entry))) process) ⌝ }
+    requires { ⌜ length (now h) ≡ headerWords ⌝ }
+    ensures { λ r. ⌜ ((s : State) → Shows s process (now (h .entry)) kind → r ≡ stepPermit (storeOf s (now (nodes .entry)) (now (versions .entry)) (now (tally .entry))) process) ⌝ }
 {
-    let lawful = lawful_store(h, nodes, versions) & (tally.len() == State::ANSWERS as usize);
-    let no_process = h.processes <= process;
-    let no_call = is_idle(kind);
-    let spent = h.limit <= h.events;
-    let nine = deny_if(spent, Refusal::Spent, Permit::Granted);
-    let eight = deny_if(no_call, Refusal::NoCall, nine);
-    let five = deny_if(no_process, Refusal::NoProcess, eight);
-    deny_unless(lawful, Refusal::Corrupt, five)
+    if !lawful_store(h, nodes, versions) {
+        return Permit::Denied(Refusal::Corrupt);
+    }
+    if tally.len() != State::ANSWERS as usize {
+        return Permit::Denied(Refusal::Corrupt);
+    }
+    if h[1] <= process {
+        return Permit::Denied(Refusal::NoProcess);
+    }
+    if is_idle(kind) {
+        return Permit::Denied(Refusal::NoCall);
+    }
+    if h[2] <= h[3] {
+        return Permit::Denied(Refusal::Spent);
+    }
+    Permit::Granted
 }
 
-pub fn look_permit(h: Header, nodes: &[u32], versions: &[u32], key: u32) -> Permit
-    ensures { λ r. ⌜ ((s : State) → headerOf s ≡ h → r ≡ lookPermit s (now (nodes .entry)) (now (versions .entry)) key) ⌝ }
+pub fn look_permit(h: &[u32], nodes: &[u32], versions: &[u32], key: u32) -> Permit
+    requires { ⌜ length (now h) ≡ headerWords ⌝ }
+    ensures { λ r. ⌜ ((s : State) → headerOf s ≡ now (h .entry) → r ≡ lookPermit s (now (nodes .entry)) (now (versions .entry)) key) ⌝ }
 {
     let lawful = lawful_store(h, nodes, versions);
     let lawful_key = within(1, State::KEY, key);
@@ -113,11 +124,12 @@ pub fn look_permit(h: Header, nodes: &[u32], versions: &[u32], key: u32) -> Perm
     deny_unless(lawful, Refusal::Corrupt, six)
 }
 
-pub fn status_permit(h: Header, process: u32) -> Permit
-    ensures { λ r. ⌜ ((s : State) → headerOf s ≡ h → r ≡ statusPermit s process) ⌝ }
+pub fn status_permit(h: &[u32], process: u32) -> Permit
+    requires { ⌜ length (now h) ≡ headerWords ⌝ }
+    ensures { λ r. ⌜ ((s : State) → headerOf s ≡ now (h .entry) → r ≡ statusPermit s process) ⌝ }
 {
     let lawful = lawful_state(h);
-    let no_process = h.processes <= process;
+    let no_process = h[1] <= process;
     let five = deny_if(no_process, Refusal::NoProcess, Permit::Granted);
     deny_unless(lawful, Refusal::Corrupt, five)
 }
@@ -146,7 +158,7 @@ pub fn inspect_permit(s: State, nodes: &[u32], versions: &[u32]) -> Permit
     ensures { λ r. ⌜ r ≡ inspectPermit s (now (nodes .entry)) (now (versions .entry)) ⌝ }
 {
     let h = header_of(s);
-    if lawful_store(h, nodes, versions) {
+    if lawful_store(&h, nodes, versions) {
         let idle = idle_below(s, s.processes);
         deny_unless(idle, Refusal::Busy, Permit::Granted)
     } else {

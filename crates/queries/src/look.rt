@@ -73,7 +73,7 @@ pub fn look(s: State, nodes: &[u32], versions: &[u32], key: u32, back: u32) -> L
     ensures { λ r. ⌜ r ≡ lookOf s (now (nodes .entry)) (now (versions .entry)) key back ⌝ }
 {
     let h = header_of(s);
-    let permit = look_permit(h, nodes, versions, key);
+    let permit = look_permit(&h, nodes, versions, key);
     match permit {
         Permit::Granted => {
             let counts = s.counts;

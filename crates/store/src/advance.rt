@@ -14,6 +14,7 @@ use model::types::Refusal;
 use model::types::Stepping;
 use phases::moves::is_refusal;
 use turn::turn::turn;
+use words::process::words_of;
 
 // `holder` is the process's number plus 1, `tick` that of this event.
 pub fn advance(
@@ -29,21 +30,9 @@ pub fn advance(
     requires { ⌜ length (now tally) ≡ limits .answers ⌝ }
     ensures { λ r. ⌜ advanced r (now (nodes .exit)) (now (versions .exit)) (now (tally .exit)) ≡ advanceOf holder tick p (memory (now (nodes .entry)) (now (versions .entry)) counts) (now (tally .entry)) ⌝ }
 {
+    let w = words_of(p);
+    let t = turn(&w, counts, holder, tick, nodes, versions);
     let call = p.call;
-    let cursor = p.cursor;
-    let effect = p.effect;
-    let preds = p.preds;
-    let t = turn(
-        call,
-        cursor,
-        effect,
-        preds,
-        counts,
-        holder,
-        tick,
-        nodes,
-        versions,
-    );
     let mv = t.mv;
     let left = t.counts;
     if is_refusal(mv) {

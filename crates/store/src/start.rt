@@ -70,7 +70,7 @@ fn start(
     let running = p.call;
     let held = running.kind;
     let h = header_of(s);
-    let permit = start_permit(h, held, nodes, versions, process, key);
+    let permit = start_permit(&h, held, nodes, versions, process, key);
     match permit {
         Permit::Denied(refusal) => StartResult {
             outcome: Starting::Refused(refusal),

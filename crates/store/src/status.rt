@@ -25,7 +25,7 @@ pub fn status(s: State, process: u32) -> Status
     ensures { λ r. ⌜ r ≡ statusOf s process ⌝ }
 {
     let h = header_of(s);
-    let permit = status_permit(h, process);
+    let permit = status_permit(&h, process);
     match permit {
         Permit::Denied(refusal) => Status::Refused(refusal),
         Permit::Granted => {

@@ -26,7 +26,7 @@ pub fn step(
     let call = p.call;
     let kind = call.kind;
     let h = header_of(s);
-    let permit = step_permit(h, kind, nodes, versions, tally, process);
+    let permit = step_permit(&h, kind, nodes, versions, tally, process);
     match permit {
         Permit::Denied(refusal) => StepResult {
             outcome: Stepping::Refused(refusal),
@@ -34,7 +34,8 @@ pub fn step(
         },
         Permit::Granted => {
             let tick = s.events + 1;
-            let a = advance(p, h.counts, process + 1, tick, nodes, versions, tally);
+            let held = s.counts;
+            let a = advance(p, held, process + 1, tick, nodes, versions, tally);
             let outcome = a.outcome;
             if a.refused {
                 return StepResult { outcome, state: s };

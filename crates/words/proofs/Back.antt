@@ -20,7 +20,8 @@ use Rattle.model.specs.Layout.{levels, limits}
 use Rattle.model.specs.Numbers.{placeOf}
 use Rattle.model.specs.State.{noProcess}
 use Rattle.words.specs.Numbers.{kindNumber, kindOf, phaseNumber, phaseOf, answerOf}
-use Rattle.words.specs.Layout.{sizes, processWords, allWords, stateWords, processFrom, allFrom, stateFrom, knownProcess, allKnown, isState, bit}
+use Rattle.words.specs.Layout.{sizes, processWords, allWords, stateWords, processFrom, allFrom, stateFrom, knownProcess, allKnown, isState}
+use Rattle.permits.specs.Header.{bit}
 use Rattle.words.proofs.Applied.{spelt}
 use Rattle.words.proofs.Laws.{heads}
 
@@ -54,6 +55,9 @@ answer-from None = (refl, refl)
 
 pub process-long : (p : Process) → length (p .preds) ≡ levels → length (processWords p) ≡ sizes .process
 process-long p h = simp h
+
+pub process-short : (p : Process) → length (processWords p) ≡ sizes .process → length (p .preds) ≡ levels
+process-short p h = omega (arith, h)
 
 -- its words with the remembered nodes by name
 by-name : (p : Process) → length (p .preds) ≡ levels → processWords (record {

@@ -7,7 +7,7 @@ use native.Mathlib.Omega.{arith}
 use lib.Dec.{eqb, ltb}
 use lib.ListN.{length, getD, take, drop, length-drop, drop-of-length-le}
 use lib.Seq.{length-take-le, drop-drop}
-use borrow.Author.Tests.{eqb-true}
+use borrow.Author.Tests.{eqb-true, ltb-true}
 use Rattle.model.specs.Layout.{limits}
 use Rattle.model.specs.Choice.{if_then_else_}
 use Rattle.words.specs.Layout.{sizes, knownProcess, allKnown, knownHead, isState, startOf, part, isStateAt}
@@ -44,6 +44,9 @@ pub head-long : (w : List ℕ) → knownHead w ≡ true → length w ≡ sizes .
 head-long w h =
     let a = and-eq-true-iff (eqb (length w) 153 && eqb (getD w 0 0) 1) (ltb (getD w 1 0) 2) .0 h in
     eqb-true _ _ (and-eq-true-iff (eqb (length w) 153) (eqb (getD w 0 0) 1) .0 (a .0) .0)
+
+pub head-open : (w : List ℕ) → knownHead w ≡ true → getD w 1 0 < 2
+head-open w h = ltb-true _ _ (and-eq-true-iff (eqb (length w) 153 && eqb (getD w 0 0) 1) (ltb (getD w 1 0) 2) .0 h .1)
 
 module _ (w : List ℕ) (i : ℕ) (b : Bool) (head : b ≡ knownHead w) where
   pub no-head : b ≡ false → (false ≡ isState w) × (false ≡ isStateAt w i)

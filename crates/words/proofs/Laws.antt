@@ -15,7 +15,8 @@ use Rattle.model.specs.Layout.{limits}
 use Rattle.model.specs.Numbers.{placeOf}
 use Rattle.model.specs.State.{noProcess, processAt, withEvent}
 use Rattle.words.specs.Numbers.{kindNumber, kindOf, phaseNumber, phaseOf, answerOf}
-use Rattle.words.specs.Layout.{sizes, processWords, allWords, stateWords, processFrom, allFrom, stateFrom, knownProcess, allKnown, isState, startOf, part, bit}
+use Rattle.words.specs.Layout.{sizes, processWords, allWords, stateWords, processFrom, allFrom, stateFrom, knownProcess, allKnown, isState, startOf, part}
+use Rattle.permits.specs.Header.{bit}
 
 -- ---- numbers
 
@@ -100,7 +101,7 @@ all-back (suc n) w h k =
 
 -- ---- the state
 
-bit-back : (n : ℕ) → n < 2 → bit (eqb n 1) ≡ n
+pub bit-back : (n : ℕ) → n < 2 → bit (eqb n 1) ≡ n
 bit-back n h = eqb-true _ _ (below 2 (λ n. eqb (bit (eqb n 1)) n) refl n h)
 
 -- what the test tells

@@ -12,9 +12,10 @@ use Rattle.model.specs.declared.types.Counts.{Counts}
 use Rattle.model.specs.declared.types.Process.{Process}
 use Rattle.model.specs.Layout.{limits}
 use Rattle.model.specs.State.{noProcess, processAt, withEvent}
+use Rattle.permits.specs.Header.{headerWords, headerOf}
 use Rattle.words.specs.Layout.{sizes, processWords, stateWords, allFrom, stateFrom, knownProcess, allKnown, knownHead, isState, startOf, part, isStateAt, written}
-use Rattle.words.proofs.Known.{head-long, by-one, by-none}
-use Rattle.words.proofs.Laws.{process-back, process-at, known-rest, state-facts, putProcess, putEvent, event-words}
+use Rattle.words.proofs.Known.{head-long, head-open, by-one, by-none}
+use Rattle.words.proofs.Laws.{heads, heads-are, bit-back, process-back, process-at, known-rest, state-facts, putProcess, putEvent, event-words}
 
 -- ---- nothing happened
 
@@ -55,6 +56,20 @@ process-same w i k = cases (ltb i 8) refl
 pub written-same : (w : List ℕ) (i : ℕ) → isStateAt w i ≡ true → written w i (stateFrom w) ≡ w
 unfolding written stateFrom
 written-same w i k = simp (process-same w i k, set-getD w 4 0, set-getD w 7 0, set-getD w 8 0)
+
+-- ---- the head
+
+-- the header of the state stands behind the first word
+pub header-at : (w : List ℕ) (i : ℕ) → isStateAt w i ≡ true → headerOf (stateFrom w) ≡ take headerWords (drop 1 w)
+unfolding isStateAt stateFrom
+header-at w i k =
+    let head = and-eq-true-iff (knownHead w) (knownProcess (part w i)) .0 k .0 in
+    let fits : 1 + 8 ≤ length w = omega (arith, head-long w head) in
+    ap (λ b. b ∷ heads 7 2 w) (bit-back (getD w 1 0) (head-open w head)) ∙ sym (ap (take 8) (heads-are 8 1 w fits))
+
+pub events-at : (w : List ℕ) → getD w 4 0 ≡ stateFrom w .events
+unfolding stateFrom
+events-at w = refl
 
 -- ---- an event
 

@@ -15,6 +15,7 @@ use Rattle.model.specs.Choice.{if_then_else_}
 use Rattle.model.specs.Layout.{levels, limits}
 use Rattle.model.specs.Numbers.{placeOf}
 use Rattle.model.specs.State.{processAt}
+use Rattle.permits.specs.Header.{headerOf}
 use Rattle.words.specs.declared.types.Sizes.{Sizes}
 use Rattle.words.specs.Numbers.{kindNumber, kinds, kindOf, phaseNumber, phases, phaseOf, answers, answerOf}
 
@@ -39,14 +40,8 @@ unfoldable pub allWords : List Process → List ℕ
 allWords [] = []
 allWords (p ∷ ps) = processWords p ++ allWords ps
 
-abbrev pub bit : Bool → ℕ
-bit true = 1
-bit false = 0
-
 abbrev pub headWords : State → List ℕ
-headWords s =
-    sizes .version ∷ bit (s .opened) ∷ s .processes ∷ s .limit ∷ s .events ∷ s .lengths .nodes ∷ s .lengths .versions
-    ∷ s .counts .nodes ∷ s .counts .versions ∷ []
+headWords s = sizes .version ∷ headerOf s
 
 unfoldable pub stateWords : State → List ℕ
 stateWords s = headWords s ++ allWords (s .process)

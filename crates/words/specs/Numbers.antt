@@ -14,12 +14,13 @@ kindNumber Idle = 0
 kindNumber Put = 1
 kindNumber Get = 2
 
--- What a number means. One that no kind, phase or answer has is told by `knownProcess`: what it is taken for is then of no use.
+-- What a number means. One that no kind, phase or answer has is told by `knownProcess`: what it is taken for, the last, is then
+-- of no use.
 abbrev pub kinds : List Kind
 kinds = Idle ∷ Put ∷ Get ∷ []
 
 abbrev pub kindOf : ℕ → Kind
-kindOf n = getD kinds n Idle
+kindOf n = getD kinds n Get
 
 abbrev pub phaseNumber : Phase → ℕ
 phaseNumber Walk = 0
@@ -36,7 +37,7 @@ abbrev pub phases : List Phase
 phases = Walk ∷ Read ∷ Seek ∷ Lock ∷ Check ∷ Update ∷ Make ∷ Link ∷ Release ∷ []
 
 abbrev pub phaseOf : ℕ → Phase
-phaseOf n = getD phases n Walk
+phaseOf n = getD phases n Release
 
 abbrev pub answers : List Answer
 answers = TooOld ∷ VersionsFull ∷ Added ∷ KeysFull ∷ New ∷ Found ∷ None ∷ []

@@ -22,7 +22,7 @@ pub fn kind_of(word: u32) -> Kind
         0 => Kind::Idle,
         1 => Kind::Put,
         2 => Kind::Get,
-        _ => Kind::Idle,
+        _ => Kind::Get,
     }
 }
 
@@ -55,7 +55,7 @@ pub fn phase_of(word: u32) -> Phase
         6 => Phase::Make,
         7 => Phase::Link,
         8 => Phase::Release,
-        _ => Phase::Walk,
+        _ => Phase::Release,
     }
 }
 

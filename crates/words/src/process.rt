@@ -91,6 +91,39 @@ pub fn is_process(w: &[u32]) -> bool
     w[10] < 7
 }
 
+// A process by value in its words.
+pub fn words_of(p: Process) -> [u32; 18]
+    ensures { λ r. ⌜ r ≡ processWords p ⌝ }
+{
+    let call = p.call;
+    let kind = call.kind;
+    let c = p.cursor;
+    let phase = c.phase;
+    let e = p.effect;
+    let answer = e.answer;
+    let preds = p.preds;
+    [
+        kind_number(kind),
+        call.key,
+        call.value,
+        call.timestamp,
+        call.top,
+        call.start,
+        phase_number(phase),
+        c.level,
+        c.pred,
+        c.made,
+        place_of(answer),
+        e.tick,
+        preds[0],
+        preds[1],
+        preds[2],
+        preds[3],
+        preds[4],
+        preds[5],
+    ]
+}
+
 // Each writer writes its own words and no other.
 pub fn put_cursor(w: &mut [u32], c: Cursor)
     requires { ⌜ length (now w) ≡ sizes .process ⌝ }

@@ -4,7 +4,6 @@ ghost use Prim.Native.Nat.{_+_};
 ghost use lib.ListN.{length, take, drop, set};
 ghost use mathlib.Core.List.{_++_};
 ghost use Rattle.model.specs.Layout.{limits};
-ghost use Rattle.permits.specs.Header.{headerOf};
 ghost use Rattle.words.specs.Layout.{sizes, headWords, allWords, stateWords, allFrom, stateFrom, allKnown, knownHead, isState, isStateAt};
 ghost use lib.Seq.{sets};
 use crate::process::is_process;
@@ -15,7 +14,6 @@ use model::types::Counts;
 use model::types::Lengths;
 use model::types::Process;
 use model::types::State;
-use permits::header::Header;
 
 // Whether all processes have known numbers.
 fn all_known(words: &[u32]) -> bool
@@ -36,7 +34,7 @@ fn all_known(words: &[u32]) -> bool
 }
 
 // Whether the words are as many as a state's, of this layout, open or not.
-fn is_head(words: &[u32]) -> bool
+pub fn is_head(words: &[u32]) -> bool
     ensures { λ r. ⌜ r ≡ knownHead (now (words .entry)) ⌝ }
 {
     if words.len() != Sizes::STATE {
@@ -73,25 +71,14 @@ pub fn is_state_at(words: &[u32], process: u32) -> bool
     is_process(&words[at..end])
 }
 
-pub fn header_in(words: &[u32]) -> Header
+// Nodes and versions in use.
+pub fn counts_in(words: &[u32]) -> Counts
     requires { ⌜ length (now words) ≡ sizes .state ⌝ }
-    ensures { λ r. ⌜ r ≡ headerOf (stateFrom (now (words .entry))) ⌝ }
+    ensures { λ r. ⌜ r ≡ stateFrom (now (words .entry)) .counts ⌝ }
 {
-    let lengths = Lengths {
-        nodes: words[5],
-        versions: words[6],
-    };
-    let counts = Counts {
+    Counts {
         nodes: words[7],
         versions: words[8],
-    };
-    Header {
-        opened: words[1] == 1,
-        processes: words[2],
-        limit: words[3],
-        events: words[4],
-        lengths,
-        counts,
     }
 }
 
@@ -116,15 +103,17 @@ pub fn state_in(words: &[u32]) -> State
     requires { ⌜ length (now words) ≡ sizes .state ⌝ }
     ensures { λ r. ⌜ r ≡ stateFrom (now (words .entry)) ⌝ }
 {
-    let h = header_in(words);
-    let lengths = h.lengths;
-    let counts = h.counts;
+    let lengths = Lengths {
+        nodes: words[5],
+        versions: words[6],
+    };
+    let counts = counts_in(words);
     let process = processes_in(words);
     State {
-        opened: h.opened,
-        processes: h.processes,
-        limit: h.limit,
-        events: h.events,
+        opened: words[1] == 1,
+        processes: words[2],
+        limit: words[3],
+        events: words[4],
         lengths,
         counts,
         process,

@@ -1,49 +1,17 @@
--- The process read out of its words is turned; a refused move leaves the words, any other is written over them.
-use mathlib.Core.Path.{_≡_, sym, ap, _∙_}
+-- The process in its words is turned; a refused move leaves the words, any other is written over them.
+use mathlib.Core.Path.{sym, ap, _∙_}
 use borrow.Author.Needs.{needs}
-use Rattle.model.specs.Phases.{turnOf}
 use Rattle.model.specs.Calls.{outcomeOf}
-use Rattle.tables.specs.Room.{memory}
-use Rattle.phases.specs.Turn.{leaves, refuses}
-use Rattle.turn.specs.Process.{process}
+use Rattle.phases.specs.Turn.{refuses}
 use Rattle.store.specs.Advance.{advanceOf}
 use Rattle.store.proofs.Laws.{level-fits}
-use Rattle.words.specs.Layout.{processFrom}
 use Rattle.words.proofs.Laws.{process-back}
 use Rattle.inplace.proofs.Laws.{refused-in, moved-in}
 use Rattle.inplace.proofs.advance.advance.Statement.{statement}
 use Rattle.inplace.proofs.advance.advance.Tie as tie
 
 abbrev start : tie.After-turn → tie.Start
-start c = c .before .before .before .before .before .before .before .before .before .before .before .before .before .before .before
-
--- what was read is the process in the words
-reads : (c : tie.After-preds-in)
-    → process (c .before .before .before .before .before .before .call-in .result) (c .before .before .before .before .cursor-in .result) (c .before .before .effect-in .result) (c .preds-in .result)
-    ≡ processFrom (c .before .before .before .before .before .before .before .before .before .before .before .before .args .w .now)
-reads c =
-    simp (c .before .before .before .before .before .before .call-in .ensures, c .before .before .before .before .cursor-in .ensures, c .before .before .effect-in .ensures, c .preds-in .ensures)
-
--- so its turn is that of the process in the words
-turned : (c : tie.After-turn) → let a = start c .args in
-    leaves (c .turn .result) (c .turn .last .1 .1 .1 .1 .1 .1 .1 .0) (c .turn .last .1 .1 .1 .1 .1 .1 .1 .1 .0)
-    ≡ turnOf (a .holder) (a .tick) (processFrom (a .w .now)) (memory (a .nodes .now) (a .versions .now) (a .counts))
-turned c =
-    let a = start c .args in
-    c .turn .ensures
-    ∙ ap (λ p. turnOf (a .holder) (a .tick) p (memory (a .nodes .now) (a .versions .now) (a .counts))) (reads (c .before .before .before))
-
-call-in-requires : tie.Need-call-in-requires
-call-in-requires c κs = search needs
-
-cursor-in-requires : tie.Need-cursor-in-requires
-cursor-in-requires c κs = search needs
-
-effect-in-requires : tie.Need-effect-in-requires
-effect-in-requires c κs = search needs
-
-preds-in-requires : tie.Need-preds-in-requires
-preds-in-requires c κs = search needs
+start c = c .before .before .before .before .before .before .before .before
 
 turn-requires : tie.Need-turn-requires
 turn-requires c κs = search needs
@@ -65,21 +33,24 @@ unfolding advanceOf
 returns c =
     let t = c .before .before .before .before .before .before .before in
     let s = start t in
-    refused-in (s .args .tick) _ (s .args .w .now) _ _ _ _ (turned t) (sym (c .before .is-refusal .ensures) ∙ c .if1 .taken)
+    refused-in (s .args .tick) _ (s .args .w .now) _ _ _ _ (t .turn .ensures) (sym (c .before .is-refusal .ensures) ∙ c .if1 .taken)
     (process-back (s .args .w .now) (s .pre .0) (s .pre .1 .0))
 
 count-end-requires : tie.Need-count-end-requires
-count-end-requires c κs = c .before .before .before .before .before .before .before .before .before .before .before .before .before .before .before .before .before .before .before .before .before .before .before .pre .1 .1 .1
+count-end-requires c κs = search needs
 
-apply-requires : tie.Need-apply-requires
-apply-requires c κs =
-    let t = c .before .before .before .before .before .before .before .before .before .before .before .before in
-    let s = start t in
-    let still = sym (ap (λ v. refuses (v .move)) (turned t)) ∙ sym (c .before .before .before .before .before .before .is-refusal .ensures) ∙ c .before .before .before .before .before .if1 .left in
-    (s .pre .0, (s .pre .1 .0, level-fits _ _ _ _ still))
+call-in-requires : tie.Need-call-in-requires
+call-in-requires c κs = search needs
 
 outcome-of-requires : tie.Need-outcome-of-requires
 outcome-of-requires c κs = search needs
+
+apply-requires : tie.Need-apply-requires
+apply-requires c κs =
+    let t = c .before .before .before .before .before .before .before .before .before .before .before .before .before .before .before in
+    let s = start t in
+    let still = sym (ap (λ v. refuses (v .move)) (t .turn .ensures)) ∙ sym (c .before .before .before .before .before .before .before .before .before .is-refusal .ensures) ∙ c .before .before .before .before .before .before .before .before .if1 .left in
+    (s .pre .0, (s .pre .1 .0, level-fits _ _ _ _ still))
 
 same-length-4 : tie.Need-same-length-4
 same-length-4 c = search needs
@@ -96,20 +67,17 @@ same-length-7 c = search needs
 returns-2 : tie.Need-returns-2
 unfolding advanceOf
 returns-2 c =
-    let t = c .before .before .before .before .before .before .before .before .before .before .before .before .before .before .before .before in
+    let t = c .before .before .before .before .before .before .before .before .before .before .before .before .before .before .before .before .before .before in
     let a = start t .args in
-    moved-in (a .tick) _ _ _ _ _ _ (turned t) _ _ (sym (c .before .before .before .before .before .before .before .before .before .before .is-refusal .ensures) ∙ c .before .before .before .before .before .before .before .before .before .if1 .left)
-    (c .outcome-of .ensures ∙ ap (λ k. outcomeOf (a .tick) k (t .turn .result .mv)) (t .before .before .before .before .before .before .before .before .before .call-in .ensures)) (c .before .before .before .apply .ensures)
-    (c .before .before .before .before .before .before .before .count-end .ensures)
+    let o = c .before .before .before .before in
+    moved-in (a .tick) _ _ _ _ _ _ (t .turn .ensures) _ _ (sym (c .before .before .before .before .before .before .before .before .before .before .before .before .is-refusal .ensures) ∙ c .before .before .before .before .before .before .before .before .before .before .before .if1 .left)
+    (o .outcome-of .ensures ∙ ap (λ k. outcomeOf (a .tick) k (t .turn .result .mv)) (o .before .call-in .ensures))
+    (c .before .before .apply .ensures) (c .before .before .before .before .before .before .before .before .before .count-end .ensures)
 
 pub advance-spec : {M : Type 1} → statement M
 advance-spec =
     tie.close
     (tie.spec
-    call-in-requires
-    cursor-in-requires
-    effect-in-requires
-    preds-in-requires
     turn-requires
     is-refusal-requires
     same-length
@@ -117,8 +85,9 @@ advance-spec =
     same-length-3
     returns
     count-end-requires
-    apply-requires
+    call-in-requires
     outcome-of-requires
+    apply-requires
     same-length-4
     same-length-5
     same-length-6

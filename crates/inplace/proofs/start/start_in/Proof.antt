@@ -11,6 +11,7 @@ use Rattle.model.specs.declared.types.Call.{Call}
 use Rattle.model.specs.Calls.{startPermit}
 use Rattle.permits.proofs.Laws.{MayStart, may-start}
 use Rattle.words.specs.Layout.{processWords, stateFrom, isState, startOf}
+use Rattle.words.proofs.Written.{state-at, header-at, events-at}
 use Rattle.inplace.proofs.Laws.{kind-at, start-unknown, start-denied, start-granted, state-long}
 use Rattle.inplace.proofs.start.start_in.Statement.{statement}
 use Rattle.inplace.proofs.start.start_in.Tie as tie
@@ -42,8 +43,8 @@ permit-is c =
     let a = start c .args in
     c .start-permit .ensures _
     (record {
-      same = sym (c .before .before .before .before .header-in .ensures);
-      found = λ h. kind-at (a .words .now) (a .process) _ (c .before .before .before .slot .ensures .1 h) h ∙ sym (c .before .kind-of .ensures);
+      same = header-at (a .words .now) 0 (state-at (a .words .now) 0 (known (c .before .before .before .before .before .before)));
+      found = λ h. kind-at (a .words .now) (a .process) _ (c .before .before .before .before .before .slot .ensures .1 h) h ∙ sym (c .before .before .before .kind-of .ensures);
     })
 
 may : (c : tie.After-enum-told) → let a = start (c .before .before) .args in
@@ -63,9 +64,6 @@ returns : tie.Need-returns
 returns c =
     start-unknown _ _ _ (λ t. call (c .before .before .before .before .before .before) t) (sym (c .before .is-state .ensures) ∙ not-true _ (c .if1 .taken))
 
-header-in-requires : tie.Need-header-in-requires
-header-in-requires c κs = long (c .before)
-
 slot-requires : tie.Need-slot-requires
 slot-requires c κs = search needs
 
@@ -79,10 +77,19 @@ mul-kind-of : tie.Need-mul-kind-of
 mul-kind-of c = search needs
 
 slice-read-kind-of : tie.Need-slice-read-kind-of
-slice-read-kind-of c = let l = long (c .before .before .before .before) in let f = c .before .slot .ensures .0 in search needs
+slice-read-kind-of c = let l = long (c .before .before) in let f = c .before .slot .ensures .0 in search needs
 
 kind-of-requires : tie.Need-kind-of-requires
 kind-of-requires c κs = search needs
+
+sub-start-permit : tie.Need-sub-start-permit
+sub-start-permit c = search needs
+
+part-start-permit-start : tie.Need-part-start-permit-start
+part-start-permit-start c = search needs
+
+part-start-permit-end : tie.Need-part-start-permit-end
+part-start-permit-end c = let l = long (c .before .before .before .before) in omega arith
 
 start-permit-requires : tie.Need-start-permit-requires
 start-permit-requires c κs = search needs
@@ -96,15 +103,20 @@ enum-told c = search needs
 add-end : tie.Need-add-end
 add-end c = search needs
 
+slice-read-tick : tie.Need-slice-read-tick
+slice-read-tick c = let l = long (c .before .before .before .before .before .before .before .before .before) in omega arith
+
 add-tick : tie.Need-add-tick
 add-tick c =
     let f = may (c .before) in
     let l = f .lawful .limit in
-    let e = ap (λ h. h .events) (c .before .before .before .before .before .before .before .header-in .ensures) in
-    omega (arith, f .event, e)
+    omega (arith, f .event, events-at (start (c .before .before .before) .args .words .now))
 
 begin-requires : tie.Need-begin-requires
 begin-requires c κs = search needs
+
+counts-in-requires : tie.Need-counts-in-requires
+counts-in-requires c κs = long (c .before .before .before .before .before .before .before .before .before .before .before)
 
 mul-put-process : tie.Need-mul-put-process
 mul-put-process c = search needs
@@ -116,17 +128,17 @@ part-put-process-start : tie.Need-part-put-process-start
 part-put-process-start c = search needs
 
 part-put-process-end : tie.Need-part-put-process-end
-part-put-process-end c = let l = long (c .before .before .before .before .before .before .before .before .before .before .before) in let f = c .before .before .before .before .before .before .before .before .slot .ensures .0 in omega arith
+part-put-process-end c = let l = long (c .before .before .before .before .before .before .before .before .before .before .before .before) in let f = c .before .before .before .before .before .before .before .before .before .before .before .slot .ensures .0 in omega arith
 
 put-process-requires : tie.Need-put-process-requires
 put-process-requires c κs = search needs
 
 put-event-requires : tie.Need-put-event-requires
 put-event-requires c κs =
-    let e = c .before .before .before .before .before .before .before .before in
-    let at = startOf (c .before .before .before .before .before .before .before .before .before .before .before .before .before .slot .result) in
+    let e = c .before .before .before .before .before .before .before .before .before in
+    let at = startOf (c .before .before .before .before .before .before .before .before .before .before .before .before .before .before .before .before .slot .result) in
     let v = c .before .before .before .put-process in
-    same-len-mid at (at + 18 - at) (start (e .before .before) .args .words .now) (v .last .0) (v .kept .0) ∙ long (c .before .before .before .before .before .before .before .before .before .before .before .before .before .before .before .before)
+    same-len-mid at (at + 18 - at) (start (e .before .before) .args .words .now) (v .last .0) (v .kept .0) ∙ long (c .before .before .before .before .before .before .before .before .before .before .before .before .before .before .before .before .before)
 
 same-length-2 : tie.Need-same-length-2
 same-length-2 c = search needs
@@ -140,10 +152,11 @@ same-length-3 c = search needs
 
 returns-3 : tie.Need-returns-3
 returns-3 c =
-    let e = c .before .before .before .before .before .before .before .before .before .before .before in
-    start-granted _ _ _ (λ t. call (start (e .before .before)) t) (known (c .before .before .before .before .before .before .before .before .before .before .before .before .before .before .before .before .before .before .before)) _ _ _ _ (sym (permit-is (e .before .before)) ∙ e .enum-told .given .1)
-    (c .before .before .before .before .before .before .before .before .before .before .before .before .before .before .before .before .before .header-in .ensures) (c .before .before .before .before .before .before .before .before .before .before .before .before .before .before .before .before .slot .ensures .1 (few e)) (few e)
-    (c .before .before .before .before .before .before .put-process .ensures ∙ ap processWords (c .before .before .before .before .before .before .before .before .before .begin .ensures)) (c .before .before .put-event .ensures)
+    let e = c .before .before .before .before .before .before .before .before .before .before .before .before in
+    let s = start (e .before .before) in
+    start-granted _ _ _ (λ t. call s t) (known (c .before .before .before .before .before .before .before .before .before .before .before .before .before .before .before .before .before .before .before .before)) _ _ _ _ _ (sym (permit-is (e .before .before)) ∙ e .enum-told .given .1)
+    (events-at (s .args .words .now)) (c .before .before .before .before .before .before .before .before .counts-in .ensures) (c .before .before .before .before .before .before .before .before .before .before .before .before .before .before .before .before .before .before .before .slot .ensures .1 (few e)) (few e)
+    (c .before .before .before .before .before .before .put-process .ensures ∙ ap processWords (c .before .before .before .before .before .before .before .before .before .before .begin .ensures)) (c .before .before .put-event .ensures)
 
 pub start-in-spec : {M : Type 1} → statement M
 start-in-spec =
@@ -152,19 +165,23 @@ start-in-spec =
     is-state-requires
     same-length
     returns
-    header-in-requires
     slot-requires
     mul-at
     add-at
     mul-kind-of
     slice-read-kind-of
     kind-of-requires
+    sub-start-permit
+    part-start-permit-start
+    part-start-permit-end
     start-permit-requires
     enum-known-permit
     enum-told
     add-end
+    slice-read-tick
     add-tick
     begin-requires
+    counts-in-requires
     mul-put-process
     sub-put-process
     part-put-process-start

@@ -1,6 +1,6 @@
 -- The refusals are built from the last to the first, as in the definition.
-use borrow.Author.Needs.{needs}
 use Rattle.model.specs.Calls.{lookPermit}
+use borrow.Author.Needs.{needs}
 use Rattle.permits.proofs.permit.look_permit.Statement.{statement}
 use Rattle.permits.proofs.permit.look_permit.Tie as tie
 

@@ -1,17 +1,29 @@
 -- The refusals are built from the last to the first; the kind counts only for a number below the count.
-use borrow.Author.Needs.{needs}
+use mathlib.Core.Path.{ap}
+use lib.Dec.{leb}
+use lib.ListN.{getD}
 use Rattle.permits.proofs.Laws.{start-kind}
+use borrow.Author.Needs.{needs}
 use Rattle.permits.proofs.permit.start_permit.Statement.{statement}
 use Rattle.permits.proofs.permit.start_permit.Tie as tie
 
 lawful-store-requires : tie.Need-lawful-store-requires
 lawful-store-requires c κs = search needs
 
+shared-slice-read-no-process : tie.Need-shared-slice-read-no-process
+shared-slice-read-no-process c = search needs
+
 within-requires : tie.Need-within-requires
 within-requires c κs = search needs
 
 is-idle-requires : tie.Need-is-idle-requires
 is-idle-requires c κs = search needs
+
+shared-slice-read-spent : tie.Need-shared-slice-read-spent
+shared-slice-read-spent c = search needs
+
+shared-slice-read-spent-2 : tie.Need-shared-slice-read-spent-2
+shared-slice-read-spent-2 c = search needs
 
 deny-if-requires : tie.Need-deny-if-requires
 deny-if-requires c κs = search needs
@@ -31,7 +43,7 @@ deny-unless-requires-3 c κs = search needs
 returns : tie.Need-returns
 returns c =
     λ s e.
-    let a = c .before .before .before .before .before .before .before .before .before .before .before .before .args in
+    let a = c .before .before .before .before .before .before .before .before .before .before .before .before .before .before .args in
     let k = start-kind s (a .nodes .now) (a .versions .now) (a .process) (a .kind) (e .found) in
     simp (
       k,
@@ -40,10 +52,11 @@ returns c =
       c .before .before .deny-unless2 .ensures,
       c .before .before .before .deny-unless .ensures,
       c .before .before .before .before .deny-if .ensures,
-      c .before .before .before .before .before .before .is-idle .ensures,
-      c .before .before .before .before .before .before .before .within .ensures,
-      c .before .before .before .before .before .before .before .before .before .lawful-store .ensures s (e .same),
-      ← e .same,
+      c .before .before .before .before .before .before .before .is-idle .ensures,
+      c .before .before .before .before .before .before .before .before .within .ensures,
+      c .before .before .before .before .before .before .before .before .before .before .lawful-store .ensures s (e .same),
+      ap (λ h. leb (getD h 1 0) (a .process)) (e .same),
+      ap (λ h. leb (getD h 2 0) (getD h 3 0)) (e .same),
     )
 
 pub start-permit-spec : {M : Type 1} → statement M
@@ -51,8 +64,11 @@ start-permit-spec =
     tie.close
     (tie.spec
     lawful-store-requires
+    shared-slice-read-no-process
     within-requires
     is-idle-requires
+    shared-slice-read-spent
+    shared-slice-read-spent-2
     deny-if-requires
     deny-unless-requires
     deny-unless-requires-2

@@ -1,11 +1,38 @@
 -- A refused move leaves process and tally; any other is told, counted and put into the process.
-use mathlib.Core.Path.{sym, _∙_, ap}
-use Rattle.store.specs.Advance.{advanceOf, advanceBy}
-use Rattle.phases.specs.Turn.{refuses}
-use Rattle.store.proofs.Laws.{refused-advance, moved-advance, level-fits}
+use mathlib.Core.Path.{_≡_, sym, ap, _∙_}
+use lib.ListN.{length}
 use borrow.Author.Needs.{needs}
+use Rattle.model.specs.Phases.{turnOf}
+use Rattle.tables.specs.Room.{memory}
+use Rattle.phases.specs.Turn.{leaves, refuses}
+use Rattle.words.specs.Layout.{processFrom}
+use Rattle.words.proofs.Back.{process-from, process-short}
+use Rattle.store.specs.Advance.{advanceOf, advanceBy}
+use Rattle.store.proofs.Laws.{refused-advance, moved-advance, level-fits}
 use Rattle.store.proofs.advance.advance.Statement.{statement}
 use Rattle.store.proofs.advance.advance.Tie as tie
+
+abbrev start : tie.After-turn → tie.Start
+start c = c .before .before .before .before .before .before .before .before
+
+-- the turn of the process in its words is that of the process
+turned : (c : tie.After-turn) → let a = start c .args in
+    leaves (c .turn .result) (c .turn .last .1 .1 .1 .1 .0) (c .turn .last .1 .1 .1 .1 .1 .0)
+    ≡ turnOf (a .holder) (a .tick) (a .p) (memory (a .nodes .now) (a .versions .now) (a .counts))
+turned c =
+    let a = start c .args in
+    let w = c .before .before .before .before .words-of in
+    let long : length (w .result) ≡ 18 = search needs in
+    let six = process-short (a .p) (sym (ap length (w .ensures)) ∙ long) in
+    c .turn .ensures
+    ∙ ap (λ p. turnOf (a .holder) (a .tick) p (memory (a .nodes .now) (a .versions .now) (a .counts)))
+    (ap processFrom (w .ensures) ∙ process-from (a .p) six)
+
+words-of-requires : tie.Need-words-of-requires
+words-of-requires c κs = search needs
+
+slice-aggregate-turn : tie.Need-slice-aggregate-turn
+slice-aggregate-turn c = search needs
 
 turn-requires : tie.Need-turn-requires
 turn-requires c κs = search needs
@@ -22,11 +49,11 @@ same-length-2 c = search needs
 returns : tie.Need-returns
 unfolding advanceOf
 returns c =
-    let t = c .before .before .before .before .before .before .before in
-    let a = t .before .before .before .before .before .before .before .before .before .before .args in
+    let t = c .before .before .before .before .before .before .before .before in
+    let a = start t .args in
     refused-advance (a .tick) (a .p) (a .tally .now) (t .turn .result .mv) _
     (sym (c .before .is-refusal .ensures) ∙ c .if1 .taken)
-    ∙ ap (advanceBy (a .tick) (a .p) (a .tally .now)) (t .turn .ensures)
+    ∙ ap (advanceBy (a .tick) (a .p) (a .tally .now)) (turned t)
 
 count-end-requires : tie.Need-count-end-requires
 count-end-requires c κs = search needs
@@ -36,12 +63,10 @@ outcome-of-requires c κs = search needs
 
 process-after-requires : tie.Need-process-after-requires
 process-after-requires c κs =
-    let t = c .before .before .before .before .before .before .before .before .before .before .before .before in
-    let a = t .before .before .before .before .before .before .before .before .before .before .args in
+    let t = c .before .before .before .before .before .before .before .before .before .before .before .before .before in
+    let a = start t .args in
     level-fits (a .holder) (a .tick) (a .p) _
-    (sym (ap (λ v. refuses (v .move)) (t .turn .ensures))
-    ∙ sym (c .before .before .before .before .before .before .is-refusal .ensures)
-    ∙ c .before .before .before .before .before .if1 .left)
+    (sym (ap (λ v. refuses (v .move)) (turned t)) ∙ sym (c .before .before .before .before .before .before .is-refusal .ensures) ∙ c .before .before .before .before .before .if1 .left)
 
 same-length-3 : tie.Need-same-length-3
 same-length-3 c = search needs
@@ -55,17 +80,28 @@ same-length-5 c = search needs
 returns-2 : tie.Need-returns-2
 unfolding advanceOf
 returns-2 c =
-    let t = c .before .before .before .before .before .before .before .before .before .before .before .before .before in
-    let a = t .before .before .before .before .before .before .before .before .before .before .args in
+    let t = c .before .before .before .before .before .before .before .before .before .before .before .before .before .before in
+    let a = start t .args in
     moved-advance (a .tick) (a .p) (a .tally .now) (t .turn .result .mv) _ _ _ _
-    (sym (c .before .before .before .before .before .before .before .is-refusal .ensures)
-    ∙ c .before .before .before .before .before .before .if1 .left)
-    (c .before .outcome-of .ensures) (c .process-after .ensures) (c .before .before .before .before .count-end .ensures)
-    ∙ ap (advanceBy (a .tick) (a .p) (a .tally .now)) (t .turn .ensures)
+    (sym (c .before .before .before .before .before .before .before .is-refusal .ensures) ∙ c .before .before .before .before .before .before .if1 .left) (c .before .outcome-of .ensures) (c .process-after .ensures)
+    (c .before .before .before .before .count-end .ensures)
+    ∙ ap (advanceBy (a .tick) (a .p) (a .tally .now)) (turned t)
 
 pub advance-spec : {M : Type 1} → statement M
 advance-spec =
     tie.close
     (tie.spec
-    turn-requires is-refusal-requires same-length same-length-2 returns count-end-requires outcome-of-requires
-    process-after-requires same-length-3 same-length-4 same-length-5 returns-2)
+    words-of-requires
+    slice-aggregate-turn
+    turn-requires
+    is-refusal-requires
+    same-length
+    same-length-2
+    returns
+    count-end-requires
+    outcome-of-requires
+    process-after-requires
+    same-length-3
+    same-length-4
+    same-length-5
+    returns-2)

@@ -8,16 +8,16 @@ use Rattle.store.proofs.start.start.Statement.{statement}
 use Rattle.store.proofs.start.start.Tie as tie
 
 -- the permit is the definition's: the kind was read at the process's own place
-permit-is : (c : tie.After-start-permit) → let a = c .before .before .before .before .before .before .before .args in
+permit-is : (c : tie.After-start-permit) → let a = c .before .before .before .before .before .before .before .before .args in
     c .start-permit .result ≡ startPermit (a .t1) (a .nodes .now) (a .versions .now) (a .process) (a .key)
 permit-is c =
     c .start-permit .ensures _
     (record {
-      same = sym (c .before .header-of .ensures);
-      found = λ h. simp (c .before .before .before .before .slot .ensures .1 h);
+      same = sym (c .before .before .header-of .ensures);
+      found = λ h. simp (c .before .before .before .before .before .slot .ensures .1 h);
     })
 
-may : (c : tie.After-enum-told) → let a = c .before .before .before .before .before .before .before .before .before .args in
+may : (c : tie.After-enum-told) → let a = c .before .before .before .before .before .before .before .before .before .before .args in
     MayStart (a .t1) (a .nodes .now) (a .versions .now) (a .process)
 may c = may-start _ _ _ _ _ (permit-is (c .before .before)) (c .enum-told .given .1)
 
@@ -32,6 +32,9 @@ element-copy-out-p c = search needs
 
 header-of-requires : tie.Need-header-of-requires
 header-of-requires c κs = search needs
+
+slice-aggregate-start-permit : tie.Need-slice-aggregate-start-permit
+slice-aggregate-start-permit c = search needs
 
 start-permit-requires : tie.Need-start-permit-requires
 start-permit-requires c κs = search needs
@@ -48,8 +51,8 @@ add-tick c = let f = may c in search needs
 begin-requires : tie.Need-begin-requires
 begin-requires c κs = search needs
 
-mul-t30 : tie.Need-mul-t30
-mul-t30 c = search needs
+mul-t33 : tie.Need-mul-t33
+mul-t33 c = search needs
 
 element-set-from-s : tie.Need-element-set-from-s
 element-set-from-s c = search needs
@@ -62,12 +65,12 @@ returns-2 : tie.Need-returns-2
 unfolding startBy
 returns-2 c =
     let f = may (c .before) in
-    let i = c .before .before .before .before .before .before .before .slot .ensures .1 (omega arith) in
+    let i = c .before .before .before .before .before .before .before .before .slot .ensures .1 (omega arith) in
     simp (c .begin .ensures, i, ← permit-is (c .before .before .before), c .before .enum-told .given .1)
 
 pub start-spec : {M : Type 1} → statement M
 start-spec =
     tie.close
     (tie.spec
-    slot-requires mul-p element-copy-out-p header-of-requires start-permit-requires enum-known-permit enum-told
-    add-tick begin-requires mul-t30 element-set-from-s returns returns-2)
+    slot-requires mul-p element-copy-out-p header-of-requires slice-aggregate-start-permit start-permit-requires enum-known-permit enum-told
+    add-tick begin-requires mul-t33 element-set-from-s returns returns-2)

@@ -9,6 +9,9 @@ use Rattle.store.proofs.status.status.Tie as tie
 header-of-requires : tie.Need-header-of-requires
 header-of-requires c κs = search needs
 
+slice-aggregate-status-permit : tie.Need-slice-aggregate-status-permit
+slice-aggregate-status-permit c = search needs
+
 status-permit-requires : tie.Need-status-permit-requires
 status-permit-requires c κs = search needs
 
@@ -23,8 +26,8 @@ mul-p c = search needs
 
 element-copy-out-p : tie.Need-element-copy-out-p
 element-copy-out-p c =
-    let a = c .before .before .before .before .args in
-    let p = c .before .before .status-permit .ensures (a .t1) (sym (c .before .before .before .header-of .ensures)) in
+    let a = c .before .before .before .before .before .args in
+    let p = c .before .before .status-permit .ensures (a .t1) (sym (c .before .before .before .before .header-of .ensures)) in
     let f = may-tell (a .t1) (a .process) p (c .enum-told .given .1) in
     search needs
 
@@ -35,8 +38,8 @@ returns : tie.Need-returns
 unfolding statusOf statusBy
 returns c =
     simp (
-      ← c .before .before .before .status-permit .ensures (c .before .before .before .before .before .args .t1)
-          (sym (c .before .before .before .before .header-of .ensures)),
+      ← c .before .before .before .status-permit .ensures (c .before .before .before .before .before .before .args .t1)
+          (sym (c .before .before .before .before .before .header-of .ensures)),
       c .before .permit .given .1,
     )
 
@@ -45,8 +48,8 @@ unfolding statusOf statusBy
 returns-2 c =
     simp (
       c .standing .ensures,
-      ← c .before .before .before .before .status-permit .ensures (c .before .before .before .before .before .before .args .t1)
-          (sym (c .before .before .before .before .before .header-of .ensures)),
+      ← c .before .before .before .before .status-permit .ensures (c .before .before .before .before .before .before .before .args .t1)
+          (sym (c .before .before .before .before .before .before .header-of .ensures)),
       c .before .before .enum-told .given .1,
     )
 
@@ -54,5 +57,5 @@ pub status-spec : {M : Type 1} → statement M
 status-spec =
     tie.close
     (tie.spec
-    header-of-requires status-permit-requires enum-known-permit enum-told mul-p element-copy-out-p standing-requires
+    header-of-requires slice-aggregate-status-permit status-permit-requires enum-known-permit enum-told mul-p element-copy-out-p standing-requires
     returns returns-2)

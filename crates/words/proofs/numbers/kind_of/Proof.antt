@@ -18,7 +18,7 @@ returns-3 : tie.Need-returns-3
 returns-3 c = search needs
 
 returns-4 : tie.Need-returns-4
-returns-4 c = let r = c .match .rest in sym (List·getD-eq-default kinds Kind.Idle {n = c .before .args .word} (omega arith))
+returns-4 c = let r = c .match .rest in sym (List·getD-eq-default kinds Kind.Get {n = c .before .args .word} (omega arith))
 
 pub kind-of-spec : {M : Type 1} → statement M
 kind-of-spec = tie.close (tie.spec returns returns-2 returns-3 returns-4)

@@ -37,7 +37,7 @@ returns-9 : tie.Need-returns-9
 returns-9 c = search needs
 
 returns-10 : tie.Need-returns-10
-returns-10 c = let r = c .match .rest in sym (List·getD-eq-default phases Phase.Walk {n = c .before .args .word} (past 8
+returns-10 c = let r = c .match .rest in sym (List·getD-eq-default phases Phase.Release {n = c .before .args .word} (past 8
     (c .before .args .word) (past 7 (c .before .args .word) (past 6 (c .before .args .word) (past 5 (c .before .args .word) (past 4
     (c .before .args .word) (past 3 (c .before .args .word) (past 2 (c .before .args .word) (past 1 (c .before .args .word) (past 0
     (c .before .args .word) (omega arith) (r .0 .0 .0 .0 .0 .0 .0 .0 .1)) (r .0 .0 .0 .0 .0 .0 .0 .1)) (r .0 .0 .0 .0 .0 .0 .1))
