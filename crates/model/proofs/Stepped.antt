@@ -77,7 +77,7 @@ put-version K W b k v (l ∷ ls) =
     if-by (Own v) (ltb (v .timestamp) (l .timestamp)) (λ t. refl) λ t. if-by (Own v) (leb W (held b)) (λ u. refl) (λ u. refl)
 
 -- what the map replies to a put that it answers with a
-put-reply : (K W : ℕ) (b b′ : Map) (op : Operation) (a : Answer) → op .kind ≡ Put
+pub put-reply : (K W : ℕ) (b b′ : Map) (op : Operation) (a : Answer) → op .kind ≡ Put
     → putIn K W b (op .key) (record { value = op .value; timestamp = op .timestamp }) ≡ Seq.answered b′ a
     → replyOf K W b op ≡ record { answer = a; version = record { value = op .value; timestamp = op .timestamp } }
 unfolding replyBy putIn Own
@@ -86,7 +86,7 @@ put-reply K W b b′ op a ek e =
     let v : versionWith a own noVersion ≡ own = subst (λ (r : PutResult). Own own r) e (put-version K W b (op .key) own (versionsOf b (op .key))) in
     rw (ek, e, v)
 
-put-fed : (K W : ℕ) (b b′ : Map) (op : Operation) (a : Answer) → op .kind ≡ Put
+pub put-fed : (K W : ℕ) (b b′ : Map) (op : Operation) (a : Answer) → op .kind ≡ Put
     → putIn K W b (op .key) (record { value = op .value; timestamp = op .timestamp }) ≡ Seq.answered b′ a
     → b′ ≡ fedBy (op .kind) K W b op
 unfolding fedBy

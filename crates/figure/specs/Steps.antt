@@ -1,0 +1,44 @@
+-- The number of steps of a call that is turned alone, as a count over the figure's run.
+use Prim.Native.Nat.{ℕ, zero, suc, _+_, _*_}
+use lib.Dec.{leb, ltb}
+use Rattle.model.specs.Choice.{if_then_else_}
+use Rattle.model.specs.Layout.{Memory, key, next}
+use Rattle.model.proofs.Counting.{count}
+use Rattle.figure.specs.Types.{Answer, TooOld, VersionsFull, Added, KeysFull, New, Found, None}
+use Rattle.figure.specs.Figure.{HMAX, head, keyOf, find}
+
+-- the hops of `find`: how often it calls itself
+unfoldable pub hops : (bound : ℕ) → Memory → (pred k lvl : ℕ) → ℕ
+hops zero m pred k lvl = 0
+hops (suc bound) m pred k lvl =
+    let succ = next (m .nodes) lvl pred in
+    let further = suc (hops bound m succ k lvl) in
+    if leb k (keyOf m succ) then 0 else further
+
+-- Those of the finds at level lvl and at every level below, each from where the one above it stopped. The `findAll` of a get
+-- makes them; that of a put makes those down to the level h of its draw, and its `insertAll` those below.
+unfoldable pub hopsDown : (bound : ℕ) → Memory → (pred k lvl : ℕ) → ℕ
+hopsDown bound m pred k zero = hops bound m pred k 0
+hopsDown bound m pred k (suc l) =
+    hops bound m pred k (suc l) + hopsDown bound m (find bound m pred k (suc l) .pred) k l
+
+-- Each hop is a step, and so is the end of each level.
+unfoldable pub searchSteps : (bound : ℕ) → Memory → (k : ℕ) → ℕ
+searchSteps bound m k = hopsDown bound m head k HMAX + (HMAX + 1)
+
+-- the steps after the search
+unfoldable pub stepsAfter : Answer → (h : ℕ) → ℕ
+stepsAfter None h = 0
+stepsAfter Found h = 1  -- read
+stepsAfter TooOld h = 5  -- seek, lock, check, update, release
+stepsAfter VersionsFull h = 5  -- the same, or make for update
+stepsAfter Added h = 5
+stepsAfter KeysFull h = 5
+stepsAfter New h = 5 + 5 * h  -- and at each level above the bottom seek, lock, check, link, release
+
+unfoldable pub stepsOf : (bound : ℕ) → Memory → (k : ℕ) → Answer → (h : ℕ) → ℕ
+stepsOf bound m k a h = searchSteps bound m k + stepsAfter a h
+
+-- the nodes with a smaller key
+unfoldable pub smaller : Memory → (k : ℕ) → ℕ
+smaller m k = count (λ x. ltb (key (m .nodes) x) k) (m .counts .nodes)
