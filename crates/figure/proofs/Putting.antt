@@ -93,12 +93,12 @@ module _ {m : Memory} {g : Ghost} {b : Map} (N : Nodes m g) (B : Book m b) {call
       let r = bottom N B P i (finds-at 0 (omega arith)) (W .preds′) free (start + 1 + walked) in
       (run-on (W .run) (r .0), r .1)
 
-  -- ---- a put that made no node: its release is its end
-
   -- what is to be shown of the figure's outcome
   abbrev Ends : Inserted → Type 0
   Ends r = Ended i start (stepsOf bound m k (r .answer) h) (at-place (begun call) m) (r .memory) (r .answer) (ownVersion call)
       (start + (searchSteps bound m k + 4))
+
+  -- ---- a put that made no node: its release is its end
 
   plain-turn : (m₂ : Memory) (made tick e : ℕ) (a : Answer) → Plain a → path 0 ≤ m₂ .counts .nodes
       → turnOf (i + 1) tick (pose call Release 0 (path 0) preds made a e) m₂

@@ -88,7 +88,7 @@ module _ (m : Memory) (k : ℕ) where
 
 -- ---- what they find
 
--- the last node before k on level l, and its successor; `steps` hops from p
+-- the last node before k on level l, and its successor
 pub record Finds (m : Memory) (g : Ghost) (k l : ℕ) (r : Pair) : Type 0 where
   pub spot : At m g l (r .pred) k
   pub succ-is : r .succ ≡ next (m .nodes) l (r .pred)
@@ -176,22 +176,6 @@ module _ {m : Memory} {g : Ghost} (N : Nodes m g) {k : ℕ} (k-max : k < MAX) wh
   hops-few bound l p = along l (λ p r n. n + left m k (r .pred) ≤ left m k p)
       (λ p a t. omega arith)
       (λ p r n a t h f. omega (arith, h .fewer)) bound p
-
-  -- a greater bound changes nothing
-  pub find-bound : (b c l p : ℕ) → left m k p ≤ b → left m k p ≤ c → At m g l p k
-      → (find c m p k l ≡ find b m p k l) × (hops c m p k l ≡ hops b m p k l)
-  find-bound b c l p hb hc a = along l (λ p r n. (c : ℕ) → left m k p ≤ c → (find c m p k l ≡ r) × (hops c m p k l ≡ n))
-      (λ p a t c h. (find-stop c m p k l t, hops-stop c m p k l t))
-      (λ p r n a t o f c h. more p r n a t o f c h) b p hb a c hc
-    where
-      more : (p : ℕ) (r : Pair) (n : ℕ) → At m g l p k → T (not (leb k (keyOf m (next (m .nodes) l p)))) → Hop l p
-          → ((c : ℕ) → left m k (next (m .nodes) l p) ≤ c
-          → (find c m (next (m .nodes) l p) k l ≡ r) × (hops c m (next (m .nodes) l p) k l ≡ n))
-          → (c : ℕ) → left m k p ≤ c → (find c m p k l ≡ r) × (hops c m p k l ≡ suc n)
-      more p r n a t o f zero h = absurd (omega (arith, o .fewer))
-      more p r n a t o f (suc c) h =
-          let e = f c (omega (arith, o .fewer)) in
-          (find-hop c m p k l t ∙ e .0, hops-hop c m p k l t ∙ ap suc (e .1))
 
   module _ (bound : ℕ) (enough : m .counts .nodes ≤ bound) where
     pub finds : {l p : ℕ} → At m g l p k → Finds m g k l (find bound m p k l)
