@@ -26,44 +26,15 @@ use Rattle.tables.specs.Room.{memory}
 use Rattle.phases.specs.Turn.{refuses}
 use Rattle.permits.specs.Header.{headerWords, headerOf, storeOf}
 use Rattle.store.specs.Advance.{Advance, advanceBy, advanceOf}
-use Rattle.store.proofs.Laws.{refused-is, refused-advance, moved-advance, step-stays, step-moves}
+use Rattle.store.proofs.Laws.{stays, moves, step-stays, step-moves}
 use Rattle.words.specs.Numbers.{kindOf}
 use Rattle.words.specs.Layout.{sizes, processWords, stateWords, processFrom, stateFrom, knownProcess, knownHead, isState, isStateAt, startOf, part, written}
 use Rattle.words.proofs.Laws.{process-back, process-at, state-facts, state-back, putProcess, putEvent, event-words}
 use Rattle.words.proofs.Known.{part-is, part-long, by-none}
 use Rattle.words.proofs.Whole.{put-part}
-use Rattle.words.proofs.Written.{part-facts, header-at, written-same, written-event}
-use Rattle.inplace.specs.Advance.{AdvanceIn, encoded, advanceIn}
+use Rattle.words.proofs.Written.{part-facts, header-at, written-same, written-over}
+use Rattle.inplace.specs.Leave.{LeftIn, standing, evented, leaveIn}
 use Rattle.inplace.specs.Calls.{StartIn, startUnless, StepIn, stepWritten, stepIn}
-
--- ---- advance
-
-module _ (tick : ℕ) (p : Process) (w tally : List ℕ) (v : Move) (m : Memory) (turned : Moved) (is : moved m v ≡ turned) where
-  pub refused-in : refuses v ≡ true → processWords p ≡ w
-      → _≡_ {A = AdvanceIn} (record {
-        refused = true;
-        outcome = Stepping.Refused Damaged;
-        words = w;
-        memory = m;
-        tally = tally;
-      })
-      (encoded (advanceBy tick p tally turned))
-  refused-in e back =
-      ap (λ w. record { refused = true; outcome = Stepping.Refused Damaged; words = w; memory = m; tally = tally }) (sym back)
-      ∙ ap encoded (refused-advance tick p tally v m e ∙ ap (advanceBy tick p tally) is)
-
-  pub moved-in : (o : Stepping) (t : List ℕ) → refuses v ≡ false → o ≡ outcomeOf tick (p .call) v
-      → w ≡ processWords (processAfter tick p v) → t ≡ tallyAfter tally v
-      → _≡_ {A = AdvanceIn} (record { refused = false; outcome = o; words = w; memory = m; tally = t }) (encoded (advanceBy tick p tally turned))
-  moved-in o t e f g h =
-      ap (λ w. record { refused = false; outcome = o; words = w; memory = m; tally = t }) g
-      ∙ ap encoded (moved-advance tick p tally v m o (processAfter tick p v) t e f refl h ∙ ap (advanceBy tick p tally) is)
-
--- a refused advance leaves the process
-stays-process : (holder tick : ℕ) (p : Process) (m : Memory) (tally : List ℕ) → advanceOf holder tick p m tally .refused ≡ true
-    → advanceOf holder tick p m tally .process ≡ p
-unfolding advanceOf advanceBy processAfter
-stays-process holder tick p m tally e = simp (refused-is (turnOf holder tick p m .move) e)
 
 -- ---- step
 
@@ -112,85 +83,64 @@ module _ (w nodes versions tally : List ℕ) (i : ℕ) where
     unfolding stepPermit
     denied-corrupt e = simp e
 
-    -- what is left of the process that stands in its part of the words
+    -- the turn of the process that stands in its part of the words, and what its move leaves
     module _
-        (j : ℕ)
         (events : ℕ)
         (counts : Counts)
-        (a : AdvanceIn)
+        (v : Move)
+        (m : Memory)
         (now : events ≡ stateFrom w .events)
         (used : counts ≡ stateFrom w .counts)
         (granted : stepPermit store i ≡ Granted)
-        (slot : j ≡ i)
         (few : i < limits .processes)
-        (is : a ≡ advanceIn (i + 1) (events + 1) (take (startOf j + sizes .process - startOf j) (drop (startOf j) w))
-        (memory nodes versions counts) tally)
+        (turned : moved m v ≡ turnOf (i + 1) (events + 1) (standing w (startOf i)) (memory nodes versions counts))
       where
-        abbrev lent : List ℕ
-        lent = putMid (startOf j) (startOf j + sizes .process - startOf j) w (a .words)
+        found : standing w (startOf i) ≡ processAt (stateFrom w) i
+        found = sym (process-at w i few)
 
         advance : Advance
-        advance = advanceOf (i + 1) (stateFrom w .events + 1) (processAt (stateFrom w) j) (memory nodes versions (stateFrom w .counts)) tally
+        advance = advanceOf (i + 1) (stateFrom w .events + 1) (processAt (stateFrom w) i) (memory nodes versions (stateFrom w .counts)) tally
 
-        found : processFrom (take (startOf j + sizes .process - startOf j) (drop (startOf j) w)) ≡ processAt (stateFrom w) j
-        found = ap processFrom (part-is w (startOf j)) ∙ sym (process-at w j (omega (arith, few, slot)))
+        is : advanceBy (events + 1) (standing w (startOf i)) tally (moved m v) ≡ advance
+        unfolding advance advanceOf
+        is =
+            ap (advanceBy (events + 1) (standing w (startOf i)) tally) turned
+            ∙ ap (λ e. advanceOf (i + 1) (e + 1) (standing w (startOf i)) (memory nodes versions counts) tally) now
+            ∙ ap (λ p. advanceOf (i + 1) (stateFrom w .events + 1) p (memory nodes versions counts) tally) found
+            ∙ ap (λ k. advanceOf (i + 1) (stateFrom w .events + 1) (processAt (stateFrom w) i) (memory nodes versions k) tally) used
 
-        same : a ≡ encoded advance
-        unfolding advance
-        same =
-            is
-            ∙ ap (λ e. advanceIn (i + 1) (e + 1) (take (startOf j + 18 - startOf j) (drop (startOf j) w)) (memory nodes versions counts) tally) now
-            ∙ ap (λ p. encoded (advanceOf (i + 1) (stateFrom w .events + 1) p (memory nodes versions counts) tally)) found
-            ∙ ap (λ k. encoded (advanceOf (i + 1) (stateFrom w .events + 1) (processAt (stateFrom w) j) (memory nodes versions k) tally)) used
+        abbrev left : LeftIn → StepIn
+        left l = record { outcome = l .outcome; words = l .words; nodes = m .nodes; versions = m .versions; tally = l .tally }
 
-        abbrev left : AdvanceIn → (words : List ℕ) → StepIn
-        left a v = record {
-          outcome = a .outcome;
-          words = v;
-          nodes = a .memory .nodes;
-          versions = a .memory .versions;
-          tally = a .tally;
-        }
+        abbrev leaving : LeftIn
+        leaving = leaveIn (events + 1) (m .counts) v w (startOf i) tally
 
-        -- refused: the part comes back as it was lent
-        lent-back : a .refused ≡ true → lent ≡ w
-        unfolding advance
-        lent-back e =
-            let f = part-facts w i known in
-            let few-j : j < 8 = omega (arith, few, slot) in
-            let long : length (part w j) ≡ 18 = ap length (sym (part-is w (startOf j))) ∙ part-long w (startOf j) (omega (arith, few-j, f .0)) in
-            let own = ap (λ k. knownProcess (part w k)) slot ∙ f .1 in
-            let back =
-            ap (λ a. a .words) same
-            ∙ ap processWords (stays-process (i + 1) (stateFrom w .events + 1) (processAt (stateFrom w) j)
-            (memory nodes versions (stateFrom w .counts)) tally (sym (ap (λ a. a .refused) same) ∙ e))
-            ∙ ap processWords (process-at w j few-j) ∙ process-back (part w j) long own ∙ sym (part-is w (startOf j)) in
-            ap (putMid (startOf j) (startOf j + 18 - startOf j) w) back ∙ put-same (startOf j) (startOf j + 18 - startOf j) w
+        -- refused: the store's step leaves the state
+        left-stays : refuses v ≡ true → left leaving ≡ stepWritten w i (stepOf store i)
+        unfolding advance advanceBy
+        left-stays e =
+            let same : _≡_ {A = List ℕ} (leaving .words) w = simp e in
+            ap (λ u. left (record { outcome = leaving .outcome; words = u; tally = leaving .tally })) (same ∙ sym (written-same w i known))
+            ∙ ap (λ a. stepWritten w i (stays store a)) is
+            ∙ ap (stepWritten w i) (step-stays store i i (stateFrom w .counts) refl refl granted advance refl (sym (ap (λ a. a .refused) is) ∙ e))
 
-        pub step-stays-in : a .refused ≡ true → left a lent ≡ stepIn w nodes versions tally i
-        unfolding advance
-        step-stays-in e =
-            ap (left a) (lent-back e ∙ sym (written-same w i known))
-            ∙ ap (λ a. left a (written w i (stateFrom w))) same
-            ∙ ap (stepWritten w i) (step-stays store i j (stateFrom w .counts) slot refl granted advance refl (sym (ap (λ a. a .refused) same) ∙ e))
-            ∙ in-words
+        -- moved: its process, the events and the counts are written over
+        left-moves : refuses v ≡ false → left leaving ≡ stepWritten w i (stepOf store i)
+        unfolding advance advanceBy
+        left-moves e =
+            let p = processAfter (events + 1) (standing w (startOf i)) v in
+            let chosen : leaving .words ≡ evented w (startOf i) (events + 1) (m .counts) p = simp e in
+            let over = chosen ∙ ap (λ n. evented w (startOf i) (n + 1) (m .counts) p) now ∙ written-over w i p (m .counts) few in
+            ap (λ u. left (record { outcome = leaving .outcome; words = u; tally = leaving .tally })) over
+            ∙ ap (λ a. stepWritten w i (moves store i a)) is
+            ∙ ap (stepWritten w i) (step-moves store i i (stateFrom w .counts) refl refl granted advance refl (sym (ap (λ a. a .refused) is) ∙ e))
 
-        -- moved: the part that it leaves, and the counts
-        pub step-moves-in : (v : List ℕ) → length (a .words) ≡ sizes .process → a .refused ≡ false
-            → v ≡ putEvent lent (events + 1) (a .memory .counts) → left a v ≡ stepIn w nodes versions tally i
-        unfolding advance
-        step-moves-in v long e put =
-            let p = advance .process in
-            let after = advance .memory .counts in
-            let long-p : length (processWords p) ≡ 18 = ap (λ a. length (a .words)) (sym same) ∙ long in
-            ap (left a) put
-            ∙ ap (λ e. left a (putEvent lent (e + 1) (a .memory .counts))) now
-            ∙ ap (λ a. left a (putEvent (putMid (startOf j) (startOf j + 18 - startOf j) w (a .words)) (stateFrom w .events + 1) (a .memory .counts))) same
-            ∙ ap (λ v. left (encoded advance) (putEvent v (stateFrom w .events + 1) after))
-            (put-part w (processWords p) (startOf j) ∙ ap (λ k. putProcess w k (processWords p)) slot)
-            ∙ ap (left (encoded advance)) (written-event w i p after known few long-p ∙ ap (λ k. written w i (withEvent (stateFrom w) k after p)) (sym slot))
-            ∙ ap (stepWritten w i) (step-moves store i j (stateFrom w .counts) slot refl granted advance refl (sym (ap (λ a. a .refused) same) ∙ e))
-            ∙ in-words
+        pub step-left : (l : LeftIn) → l ≡ leaving → left l ≡ stepIn w nodes versions tally i
+        step-left l e = ap left e ∙ cases (refuses v) refl ∙ in-words
+          where
+            cases : (b : Bool) → refuses v ≡ b → left leaving ≡ stepWritten w i (stepOf store i)
+            cases true e = left-stays e
+            cases false e = left-moves e
 
 -- whatever the process's words are, an unlawful head is refused 10
 pub step-unlawful : (w nodes versions tally : List ℕ) (i : ℕ) → lawfulStore (stateFrom w) nodes versions ≡ false

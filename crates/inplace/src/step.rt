@@ -3,7 +3,7 @@ ghost use mathlib.Core.Path.{_≡_};
 ghost use Prim.Native.Nat.{_≤_};
 ghost use Rattle.model.specs.Layout.{limits};
 ghost use Rattle.inplace.specs.Calls.{stepIn};
-use crate::advance::advance;
+use crate::leave::leave;
 use model::types::Kind;
 use model::types::Permit;
 use model::types::Refusal;
@@ -11,11 +11,11 @@ use model::types::State;
 use model::types::Stepping;
 use permits::lawful::lawful_store;
 use permits::permit::step_permit;
+use turn::turn::turn;
 use words::numbers::kind_of;
 use words::state::counts_in;
 use words::state::is_head;
 use words::state::is_state_at;
-use words::state::put_event;
 use words::types::Sizes;
 
 // A number past the last process has no words: its step is refused.
@@ -84,22 +84,10 @@ pub fn step_in(
             let end = at + Sizes::PROCESS;
             let tick = words[4] + 1;
             let held = counts_in(words);
-            let a = advance(
-                &mut words[at..end],
-                held,
-                process + 1,
-                tick,
-                nodes,
-                versions,
-                tally,
-            );
-            let outcome = a.outcome;
-            if a.refused {
-                return outcome;
-            }
-            let counts = a.counts;
-            put_event(words, tick, counts);
-            outcome
+            let t = turn(&words[at..end], held, process + 1, tick, nodes, versions);
+            let mv = t.mv;
+            let counts = t.counts;
+            leave(words, at, tick, counts, mv, tally)
         }
     }
 }

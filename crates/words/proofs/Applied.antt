@@ -10,7 +10,7 @@ use lib.Seq.{sets}
 use Rattle.model.specs.declared.types.Process.{Process}
 use Rattle.model.specs.declared.types.Cursor.{Cursor}
 use Rattle.model.specs.declared.types.Answer.{Answer}
-use Rattle.model.specs.declared.types.Move.the-variants.{Refuse, Wait, Go, Note, Commit}
+use Rattle.model.specs.declared.types.Move.the-variants.{Wait, Go, Note, Commit}
 use Rattle.model.specs.Calls.{processAfter}
 use Rattle.words.specs.Layout.{sizes, callWords, cursorWords, effectWords, processWords, processFrom, knownProcess}
 use Rattle.words.proofs.Laws.{heads, heads-are, process-back}
@@ -40,10 +40,6 @@ set-behind (x ∷ p) q l v = ap (λ k. set (x ∷ p ++ q) k v) (suc-add (length 
 module _ (w : List ℕ) (long : length w ≡ sizes .process) (known : knownProcess w ≡ true) (tick : ℕ) where
   same : w ≡ processWords (processFrom w)
   same = sym (process-back w long known)
-
-  pub stays-refused : w ≡ processWords (processAfter tick (processFrom w) Refuse)
-  unfolding processAfter
-  stays-refused = same
 
   pub stays-waiting : w ≡ processWords (processAfter tick (processFrom w) Wait)
   unfolding processAfter

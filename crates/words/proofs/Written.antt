@@ -73,20 +73,24 @@ events-at w = refl
 
 -- ---- an event
 
-pub written-event : (w : List ℕ) (i : ℕ) (p : Process) (counts : Counts) → isStateAt w i ≡ true → i < limits .processes
+pub written-over : (w : List ℕ) (i : ℕ) (p : Process) (counts : Counts) → i < limits .processes
+    → putEvent (sets w (startOf i) (processWords p)) (stateFrom w .events + 1) counts ≡ written w i (withEvent (stateFrom w) i counts p)
+unfolding written stateFrom allFrom
+written-over w i p counts h =
+    let found : processAt (withEvent (stateFrom w) i counts p) i ≡ p = getD-set-same (stateFrom w .process) i p noProcess h in
+    ap (λ q. putEvent (sets w (startOf i) (processWords q)) (getD w 4 0 + 1) counts) (sym found)
+
+written-event : (w : List ℕ) (i : ℕ) (p : Process) (counts : Counts) → isStateAt w i ≡ true → i < limits .processes
     → length (processWords p) ≡ sizes .process
     → putEvent (putProcess w i (processWords p)) (stateFrom w .events + 1) counts ≡ written w i (withEvent (stateFrom w) i counts p)
-unfolding written stateFrom allFrom
 written-event w i p counts k h l =
     let f = part-facts w i k in
-    let found : processAt (withEvent (stateFrom w) i counts p) i ≡ p = getD-set-same (stateFrom w .process) i p noProcess h in
     let fits : startOf i + length (processWords p) ≤ length w = omega (arith, h, l, f .0) in
     let put : sets w (startOf i) (processWords p) ≡ putProcess w i (processWords p) =
     sets-eq (processWords p) w (startOf i) fits
     ∙ ap (λ k. take (startOf i) w ++ processWords p ++ drop (startOf i + k) w) l
     ∙ append-assoc (take (startOf i) w) (processWords p) (drop (startOf i + 18) w) in
-    ap (λ v. putEvent v (getD w 4 0 + 1) counts) (sym put)
-    ∙ ap (λ q. putEvent (sets w (startOf i) (processWords q)) (getD w 4 0 + 1) counts) (sym found)
+    ap (λ v. putEvent v (stateFrom w .events + 1) counts) (sym put) ∙ written-over w i p counts h
 
 -- ---- words that are a state
 

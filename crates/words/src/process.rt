@@ -2,10 +2,11 @@
 ghost use mathlib.Core.Path.{_≡_};
 ghost use lib.ListN.{length};
 ghost use Rattle.words.specs.Layout.{sizes, callWords, cursorWords, effectWords, processWords, processFrom, knownProcess};
-ghost use Prim.Native.Nat.{_≤_};
+ghost use Prim.Native.Nat.{ℕ, _≤_};
 ghost use mathlib.Core.Bool.{true};
 ghost use Rattle.model.specs.Layout.{topLevel};
 ghost use Rattle.model.specs.Calls.{processAfter};
+ghost use Rattle.model.specs.declared.types.Move.the-variants.{Go, Note, Commit};
 ghost use lib.Seq.{sets};
 use crate::numbers::answer_of;
 use crate::numbers::kind_number;
@@ -13,10 +14,10 @@ use crate::numbers::kind_of;
 use crate::numbers::phase_number;
 use crate::numbers::phase_of;
 use model::numbers::place_of;
+use model::types::Answer;
 use model::types::Call;
 use model::types::Cursor;
 use model::types::Effect;
-use model::types::Move;
 use model::types::Process;
 
 pub fn call_in(w: &[u32]) -> Call
@@ -184,30 +185,33 @@ pub fn put_process(w: &mut [u32], p: Process)
     put_preds(w, preds);
 }
 
-// What a move leaves of its process, in place: only the words that it changes are written.
-pub fn apply(w: &mut [u32], tick: u32, mv: Move)
+// What each move leaves of its process, in place: only the words that it changes are written.
+pub fn apply_go(w: &mut [u32], cursor: Cursor)
+    requires { ⌜ length (now w) ≡ sizes .process ⌝ }
+    requires { ⌜ knownProcess (now w) ≡ true ⌝ }
+    ensures { λ r. ⌜ ((tick : ℕ) → now (w .exit) ≡ processWords (processAfter tick (processFrom (now (w .entry))) (Go cursor))) ⌝ }
+{
+    put_cursor(w, cursor);
+}
+
+// The predecessor is remembered at its level before the cursor leaves it.
+pub fn apply_note(w: &mut [u32], cursor: Cursor)
     requires { ⌜ length (now w) ≡ sizes .process ⌝ }
     requires { ⌜ knownProcess (now w) ≡ true ⌝ }
     requires { ⌜ processFrom (now w) .cursor .level ≤ topLevel ⌝ }
-    ensures { λ r. ⌜ now (w .exit) ≡ processWords (processAfter tick (processFrom (now (w .entry))) mv) ⌝ }
+    ensures { λ r. ⌜ ((tick : ℕ) → now (w .exit) ≡ processWords (processAfter tick (processFrom (now (w .entry))) (Note cursor))) ⌝ }
 {
-    match mv {
-        Move::Refuse => {}
-        Move::Wait => {}
-        Move::Go(cursor) => put_cursor(w, cursor),
-        Move::Note(cursor) => {
-            let at = 12 + w[7] as usize;
-            w[at] = w[8];
-            put_cursor(w, cursor)
-        }
-        Move::Commit(cursor, answer) => {
-            put_cursor(w, cursor);
-            let effect = Effect { answer, tick };
-            put_effect(w, effect)
-        }
-        Move::End(_, _, _) => {
-            let idle = Process::idle();
-            put_process(w, idle)
-        }
-    }
+    let at = 12 + w[7] as usize;
+    w[at] = w[8];
+    put_cursor(w, cursor);
+}
+
+pub fn apply_commit(w: &mut [u32], tick: u32, cursor: Cursor, answer: Answer)
+    requires { ⌜ length (now w) ≡ sizes .process ⌝ }
+    requires { ⌜ knownProcess (now w) ≡ true ⌝ }
+    ensures { λ r. ⌜ now (w .exit) ≡ processWords (processAfter tick (processFrom (now (w .entry))) (Commit cursor answer)) ⌝ }
+{
+    put_cursor(w, cursor);
+    let effect = Effect { answer, tick };
+    put_effect(w, effect);
 }

@@ -1,21 +1,23 @@
--- A step that is let pass is its advance in the process's part of the words: Laws `step-stays-in` and `step-moves-in`.
-use Prim.Native.Nat.{_+_, _*_, _-_, _<_}
+-- A step that is let pass is the turn of the process in its part of the words, and what its move leaves: Laws `step-left`.
+use Prim.Native.Nat.{_+_, _≤_, _<_}
 use mathlib.Core.Bool.{true}
-use mathlib.Core.Path.{_≡_, refl, sym, ap, _∙_}
+use mathlib.Core.Path.{_≡_, refl, sym, ap, subst, _∙_}
 use native.Mathlib.Omega.{arith}
-use lib.ListN.{length}
+use lib.ListN.{length, getD}
 use borrow.Author.Needs.{needs}
 use borrow.Author.Tests.{not-true, not-false}
-use borrow.Rule.Slice.PartMut.{same-len-mid}
+use Rattle.model.specs.Layout.{topLevel}
+use Rattle.model.specs.Phases.{turnOf}
 use Rattle.model.specs.Calls.{stepPermit}
+use Rattle.tables.specs.Room.{memory}
+use Rattle.phases.specs.Turn.{refuses}
 use Rattle.permits.specs.Header.{storeOf}
 use Rattle.permits.proofs.Laws.{MayStep, may-step}
-use Rattle.store.proofs.Laws.{lent-may-step}
-use Rattle.words.specs.Layout.{knownProcess, stateFrom, isStateAt, startOf, part}
+use Rattle.store.proofs.Laws.{level-fits, lent-may-step}
+use Rattle.words.specs.Layout.{processFrom, stateFrom, isStateAt, startOf}
 use Rattle.words.proofs.Known.{head-long, part-is, part-long}
 use Rattle.words.proofs.Written.{part-facts, header-at, events-at}
-use Rattle.inplace.specs.Advance.{advanced}
-use Rattle.inplace.proofs.Laws.{kind-at, step-headless, step-unlawful, header-known, step-unknown, step-denied, step-stays-in, step-moves-in}
+use Rattle.inplace.proofs.Laws.{kind-at, step-headless, step-unlawful, header-known, step-unknown, step-denied, step-left}
 use Rattle.inplace.proofs.step.step_in.Statement.{statement}
 use Rattle.inplace.proofs.step.step_in.Tie as tie
 
@@ -165,31 +167,46 @@ add-tick c =
 counts-in-requires : tie.Need-counts-in-requires
 counts-in-requires c κs = long (c .before .before .before .before .before .before .before .before .before .before .before .before)
 
-mul-advance : tie.Need-mul-advance
-mul-advance c = search needs
+mul-turn : tie.Need-mul-turn
+mul-turn c = search needs
 
-sub-advance : tie.Need-sub-advance
-sub-advance c = search needs
+sub-turn : tie.Need-sub-turn
+sub-turn c = search needs
 
-part-advance-start : tie.Need-part-advance-start
-part-advance-start c = search needs
+part-turn-start : tie.Need-part-turn-start
+part-turn-start c = search needs
 
-part-advance-end : tie.Need-part-advance-end
-part-advance-end c = let l = long (c .before .before .before .before .before .before .before .before .before .before .before .before .before) in let f = few (c .before .before .before .before .before .before .before .before .before .before .before .before .before) in omega arith
+part-turn-end : tie.Need-part-turn-end
+part-turn-end c = let l = long (c .before .before .before .before .before .before .before .before .before .before .before .before .before .before) in let f = few (c .before .before .before .before .before .before .before .before .before .before .before .before .before .before) in omega arith
 
-add-advance : tie.Need-add-advance
-add-advance c = search needs
+add-turn : tie.Need-add-turn
+add-turn c = search needs
 
-advance-requires : tie.Need-advance-requires
-advance-requires c κs =
-    let e = c .before .before .before .before .before .before .before in
+turn-requires : tie.Need-turn-requires
+turn-requires c κs =
     let k = c .before .before .before .before .before .before .before .before .before .before .before .before .before .before .before .before .before in
-    let a = start (e .before .before) .args in
-    let at = startOf (a .process) in
+    let a = start (c .before .before .before .before .before .before .before .before .before) .args in
     let l = long k in
-    let own = ap knownProcess (part-is (a .words .now) at) ∙ part-facts (a .words .now) (a .process) (known k) .1 in
-    let f = may e in
-    (part-long (a .words .now) at (omega (arith, few k)), (own, (simp (c .before .before .before .before .counts-in .ensures) (lent-may-step _ _ f), f .tally)))
+    (part-long (a .words .now) (startOf (a .process)) (omega (arith, few k)), simp (c .before .before .before .before .counts-in .ensures) (lent-may-step _ _ (may (c .before .before .before .before .before .before .before))))
+
+leave-requires : tie.Need-leave-requires
+leave-requires c κs =
+    let k = c .before .before .before .before .before .before .before .before .before .before .before .before .before .before .before .before .before .before .before .before .before .before .before .before .before in
+    let a = start (c .before .before .before .before .before .before .before .before .before .before .before .before .before .before .before .before .before) .args in
+    let at = startOf (a .process) in (
+      long k,
+      (
+        omega (arith, few k),
+        (
+          part-facts (a .words .now) (a .process) (known k) .1,
+          (
+            λ h. subst (λ r. processFrom r .cursor .level ≤ topLevel) (part-is (a .words .now) at)
+                (level-fits _ _ _ _ (sym (ap (λ v. refuses (v .move)) (c .before .before .before .before .before .before .before .turn .ensures)) ∙ h)),
+            may (c .before .before .before .before .before .before .before .before .before .before .before .before .before .before .before) .tally,
+          ),
+        ),
+      ),
+    )
 
 same-length-12 : tie.Need-same-length-12
 same-length-12 c = search needs
@@ -204,19 +221,7 @@ same-length-15 : tie.Need-same-length-15
 same-length-15 c = search needs
 
 returns-5 : tie.Need-returns-5
-returns-5 c =
-    let e = c .before .before .before .before .before .before .before .before .before .before .before .before .before .before .before .before .before in
-    let k = c .before .before .before .before .before .before .before .before .before .before .before .before .before .before .before .before .before .before .before .before .before .before .before .before .before .before .before in
-    step-stays-in _ _ _ _ _ (known k) _ _ _ (advanced (c .before .before .before .before .before .before .before .before .before .advance .result) _ _ _ _) (events-at (start (e .before .before) .args .words .now))
-    (c .before .before .before .before .before .before .before .before .before .before .before .before .before .before .counts-in .ensures) (sym (permit-is (e .before .before)) ∙ e .enum-told .given .1) refl (few k) (c .before .before .before .before .before .before .before .before .before .advance .ensures) (c .if5 .taken)
-
-put-event-requires : tie.Need-put-event-requires
-put-event-requires c κs =
-    let e = c .before .before .before .before .before .before .before .before .before .before .before .before .before .before .before .before .before .before .before in
-    let a = start (e .before .before) .args in
-    let at = startOf (a .process) in
-    let v = c .before .before .before .before .before .before .before .before .before .before .before .advance in
-    same-len-mid at (at + 18 - at) (a .words .now) (v .last .0) (v .kept .0) ∙ long (c .before .before .before .before .before .before .before .before .before .before .before .before .before .before .before .before .before .before .before .before .before .before .before .before .before .before .before .before .before)
+returns-5 c = step-denied _ _ _ _ _ (known (c .before .before .before .before .before .before .before .before .before .before .before)) _ (sym (permit-is (c .before .before .before)) ∙ c .before .permit .given .1)
 
 same-length-16 : tie.Need-same-length-16
 same-length-16 c = search needs
@@ -231,30 +236,15 @@ same-length-19 : tie.Need-same-length-19
 same-length-19 c = search needs
 
 returns-6 : tie.Need-returns-6
-returns-6 c = step-denied _ _ _ _ _ (known (c .before .before .before .before .before .before .before .before .before .before .before)) _ (sym (permit-is (c .before .before .before)) ∙ c .before .permit .given .1)
-
-same-length-20 : tie.Need-same-length-20
-same-length-20 c = search needs
-
-same-length-21 : tie.Need-same-length-21
-same-length-21 c = search needs
-
-same-length-22 : tie.Need-same-length-22
-same-length-22 c = search needs
-
-same-length-23 : tie.Need-same-length-23
-same-length-23 c = search needs
-
-returns-7 : tie.Need-returns-7
-returns-7 c =
-    let e = c .before .before .before .before .before .before .before .before .before .before .before .before .before .before .before .before .before .before .before .before .before .before in
-    let k = c .before .before .before .before .before .before .before .before .before .before .before .before .before .before .before .before .before .before .before .before .before .before .before .before .before .before .before .before .before .before .before .before in
-    let a = start (e .before .before) .args in
-    let l = long k in
-    step-moves-in _ _ _ _ _ (known k) _ _ _ (advanced (c .before .before .before .before .before .before .before .before .before .before .before .before .before .before .advance .result) _ _ _ _) (events-at (a .words .now)) (c .before .before .before .before .before .before .before .before .before .before .before .before .before .before .before .before .before .before .before .counts-in .ensures)
-    (sym (permit-is (e .before .before)) ∙ e .enum-told .given .1) refl (few k) (c .before .before .before .before .before .before .before .before .before .before .before .before .before .before .advance .ensures) _
-    (c .before .before .before .before .before .before .before .before .before .before .before .before .before .before .advance .kept .0 ∙ part-long (a .words .now) (startOf (a .process)) (omega (arith, few k))) (c .before .before .before .before .before .if5 .left)
-    (c .before .before .put-event .ensures)
+returns-6 c =
+    let k = c .before .before .before .before .before .before .before .before .before .before .before .before .before .before .before .before .before .before .before .before .before .before .before .before .before .before .before .before .before .before in
+    let a = start (c .before .before .before .before .before .before .before .before .before .before .before .before .before .before .before .before .before .before .before .before .before .before) .args in
+    let t = c .before .before .before .before .before .before .before .before .before .before .before .before .turn in
+    let n = c .before .before .before .before .before .before .before .before .before .before .before .before .before .before .before .before .before .counts-in in
+    step-left _ _ _ _ _ (known k) _ _ _ _ (events-at (a .words .now)) (n .ensures)
+    (sym (permit-is (c .before .before .before .before .before .before .before .before .before .before .before .before .before .before .before .before .before .before .before .before .before .before)) ∙ c .before .before .before .before .before .before .before .before .before .before .before .before .before .before .before .before .before .before .before .before .enum-told .given .1) (few k)
+    (t .ensures ∙ ap (λ r. turnOf (a .process + 1) (getD (a .words .now) 4 0 + 1) (processFrom r) (memory (a .nodes .now) (a .versions .now) (n .result)))
+    (part-is (a .words .now) (startOf (a .process)))) _ (c .before .before .before .before .leave .ensures)
 
 pub step-in-spec : {M : Type 1} → statement M
 step-in-spec =
@@ -297,25 +287,20 @@ step-in-spec =
     slice-read-tick
     add-tick
     counts-in-requires
-    mul-advance
-    sub-advance
-    part-advance-start
-    part-advance-end
-    add-advance
-    advance-requires
+    mul-turn
+    sub-turn
+    part-turn-start
+    part-turn-end
+    add-turn
+    turn-requires
+    leave-requires
     same-length-12
     same-length-13
     same-length-14
     same-length-15
     returns-5
-    put-event-requires
     same-length-16
     same-length-17
     same-length-18
     same-length-19
-    returns-6
-    same-length-20
-    same-length-21
-    same-length-22
-    same-length-23
-    returns-7)
+    returns-6)

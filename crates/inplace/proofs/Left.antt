@@ -1,0 +1,61 @@
+-- A part of the words, written and put back with the event, is what the move leaves.
+use Prim.Native.Nat.{ℕ, _+_, _-_, _≤_}
+use mathlib.Core.Bool.{Bool, true, false}
+use mathlib.Core.List.{List, _++_, append-assoc}
+use mathlib.Core.Path.{_≡_, refl, sym, ap, _∙_}
+use native.Mathlib.Omega.{arith}
+use lib.ListN.{length, take, drop}
+use lib.Seq.{sets, sets-eq}
+use borrow.Rule.Slice.PartMut.{putMid, put-same}
+use Rattle.model.specs.declared.types.Counts.{Counts}
+use Rattle.model.specs.declared.types.Move.{Move}
+use Rattle.model.specs.declared.types.Move.the-variants.{Refuse, Wait}
+use Rattle.model.specs.declared.types.Process.{Process}
+use Rattle.model.specs.declared.types.Refusal.the-variants.{Damaged}
+use Rattle.model.specs.declared.types.Stepping.{Stepping}
+use Rattle.model.specs.Calls.{processAfter, outcomeOf, tallyAfter}
+use Rattle.phases.specs.Turn.{refuses}
+use Rattle.words.specs.Layout.{sizes, processWords, processFrom, knownProcess}
+use Rattle.words.proofs.Laws.{process-back, putEvent}
+use Rattle.words.proofs.Known.{part-is, part-long}
+use Rattle.words.proofs.Whole.{put-part}
+use Rattle.inplace.specs.Leave.{LeftIn, standing, leaveIn}
+
+-- a part put back is its words written from its place on
+pub put-sets : (w part : List ℕ) (at : ℕ) → length part ≡ sizes .process → at + sizes .process ≤ length w
+    → putMid at (at + sizes .process - at) w part ≡ sets w at part
+put-sets w part at l h =
+    put-part w part at
+    ∙ sym (sets-eq part w at (omega (arith, l, h))
+    ∙ ap (λ k. take at w ++ part ++ drop (at + k) w) l
+    ∙ append-assoc (take at w) part (drop (at + 18) w))
+
+module _ (w tally : List ℕ) (at tick : ℕ) (counts : Counts) where
+  abbrev lentPart : List ℕ
+  lentPart = take (at + sizes .process - at) (drop at w)
+
+  pub left-refused : record { outcome = Stepping.Refused Damaged; words = w; tally = tally } ≡ leaveIn tick counts Refuse w at tally
+  unfolding outcomeOf tallyAfter
+  left-refused = refl
+
+  module _ (fits : at + sizes .process ≤ length w) where
+    -- what the move leaves of the process, in its part, and the event
+    pub left-moved : (v : Move) (part u t : List ℕ) (o : Stepping) → refuses v ≡ false
+        → part ≡ processWords (processAfter tick (processFrom lentPart) v) → length part ≡ sizes .process
+        → u ≡ putEvent (putMid at (at + sizes .process - at) w part) tick counts → o ≡ outcomeOf tick (processFrom lentPart .call) v
+        → t ≡ tallyAfter tally v → record { outcome = o; words = u; tally = t } ≡ leaveIn tick counts v w at tally
+    left-moved v part u t o e is long put out counted =
+        let here = part-is w at in
+        let written =
+        put ∙ ap (λ r. putEvent r tick counts) (put-sets w part at long fits)
+        ∙ ap (λ p. putEvent (sets w at p) tick counts) (is ∙ ap (λ r. processWords (processAfter tick (processFrom r) v)) here) in
+        simp (written, out ∙ ap (λ r. outcomeOf tick (processFrom r .call) v) here, counted, e)
+
+    pub left-waits : (u : List ℕ) → knownProcess (take (sizes .process) (drop at w)) ≡ true → u ≡ putEvent w tick counts
+        → record { outcome = Stepping.Waited tick; words = u; tally = tally } ≡ leaveIn tick counts Wait w at tally
+    unfolding outcomeOf tallyAfter processAfter
+    left-waits u known put =
+        let long = part-long w at fits in
+        let own = ap knownProcess (part-is w at) ∙ known in
+        left-moved Wait lentPart u tally (Stepping.Waited tick) refl (sym (process-back lentPart long own)) long
+        (put ∙ ap (λ r. putEvent r tick counts) (sym (put-same at (at + 18 - at) w))) refl refl
