@@ -1,11 +1,12 @@
 -- Laws of the refusals: what a test tells, and what a call that is not refused may go by.
-use Prim.Native.Nat.{ℕ, zero, suc, _+_, _-_, _*_, _≤_, _<_}
-use mathlib.Core.Bool.{Bool, true, false, not, _&&_, _||_, and-eq-true-iff}
+use Prim.Native.Nat.{ℕ, zero, suc, _+_, _-_, _*_, _/_, _≤_, _<_}
+use mathlib.Core.Bool.{Bool, true, false, not, _&&_, and-eq-true-iff}
 use mathlib.Core.List.{List}
 use mathlib.Core.Path.{_≡_, refl, sym, _∙_}
+use native.Mathlib.Nat.{div-add-mod, div-le-of-le-mul, le-div-iff-mul-le, mul-le-mul-left}
 use native.Mathlib.Numerals.{unary-clauses}
 use native.Mathlib.Omega.{arith}
-use borrow.Author.Tests.{leb-false, ltb-true, ltb-false, eqb-true, eqb-false, le-leb, lt-leb, not-false}
+use borrow.Author.Tests.{leb-false, eqb-true, not-false}
 use lib.Dec.{leb, ltb, eqb}
 use lib.ListN.{length}
 use Rattle.model.specs.declared.types.Kind.{Kind}
@@ -14,7 +15,7 @@ use Rattle.model.specs.declared.types.Permit.the-variants.{Granted}
 use Rattle.model.specs.declared.types.Refusal.the-variants.{Corrupt, NoProcess, BadKey, Busy, NoCall, Spent}
 use Rattle.model.specs.declared.types.State.{State}
 use Rattle.model.specs.Layout.{limits, nodeWords, versionWords, capacity}
-use Rattle.model.specs.State.{processAt, isIdle, lawfulKey, lawfulNodes, lawfulVersions, lawfulLength, lawfulState, lawfulStore}
+use Rattle.model.specs.State.{processAt, isIdle, within, lawfulKey, lawfulNodes, lawfulVersions, lawfulLength, lawfulState, lawfulStore}
 use Rattle.model.specs.Calls.{denyIf, noSuch, spent, openPermit, startPermit, Store, stepPermit, statusPermit}
 use Rattle.model.specs.Inspection.{idleBelow}
 use Rattle.model.proofs.Laws.{granted-iff}
@@ -25,14 +26,37 @@ pub and-false : (b : Bool) → (b && false) ≡ false
 and-false true = refl
 and-false false = refl
 
--- n - 1 is 0 for n = 0 too, so nothing in use is always within it
-pub in-use : (used all : ℕ) → eqb used 0 || ltb used all ≡ leb used (all - 1)
-in-use used all = cases (eqb used 0) (ltb used all) refl refl
-  where
-    cases : (a b : Bool) → eqb used 0 ≡ a → ltb used all ≡ b → a || b ≡ leb used (all - 1)
-    cases true b e f = sym (le-leb used (all - 1) (omega (arith, eqb-true used 0 e)))
-    cases false true e f = sym (le-leb used (all - 1) (omega (arith, ltb-true)))
-    cases false false e f = sym (lt-leb used (all - 1) (omega (arith, ltb-false, eqb-false used 0 e)))
+-- four tests after others, taken two by two: the first with the third
+pub in-pairs : (before a b c d : Bool) → before && a && b && c && d ≡ before && (a && c) && (b && d)
+in-pairs false a b c d = refl
+in-pairs true false b c d = refl
+in-pairs true true false c d = sym (and-false c)
+in-pairs true true true c d = refl
+
+-- two tests are equal where each follows from the other
+same-test : (a b : Bool) → (a ≡ true → b ≡ true) → (b ≡ true → a ≡ true) → a ≡ b
+same-test true b f g = sym (f refl)
+same-test false true f g = g refl
+same-test false false f g = refl
+
+-- where the quotient's product is the length, no remainder is left, and bounds on the one are bounds on the other
+pub one-division : (words most n used : ℕ) → 0 < words
+    → within 2 (most + 1) (n / words) && eqb (words * (n / words)) n && ltb used (n / words)
+    ≡ lawfulLength words most n && leb used (capacity words n)
+unfolding lawfulLength capacity
+one-division words most n used some =
+    let whole = div-add-mod n words in
+    same-test _ _
+    (λ h.
+    let f = simp (and-eq-true-iff, leb-iff, eqb-iff) at h in
+    let most-words = mul-le-mul-left words (f .0 .0 .1) in
+    simp (and-eq-true-iff, leb-iff, eqb-iff)
+    ((((le-div-iff-mul-le some) .0 (f .0 .0 .0), omega arith), omega arith), omega arith))
+    (λ h.
+    let f = simp (and-eq-true-iff, leb-iff, eqb-iff) at h in
+    let two = (le-div-iff-mul-le some) .1 (f .0 .0 .0) in
+    let few = div-le-of-le-mul words (f .0 .0 .1) in
+    simp (and-eq-true-iff, leb-iff, eqb-iff) (((two, omega arith), omega arith), omega arith))
 
 -- one process less
 pub idle-more : (s : State) (n : ℕ) → 0 < n

@@ -1,10 +1,12 @@
 // Refusal 10: what is within the limits of document 01.
+ghost use mathlib.Core.Bool.{_&&_};
 ghost use mathlib.Core.Path.{_≡_};
-ghost use Prim.Native.Nat.{_-_};
+ghost use Prim.Native.Nat.{_<_};
 ghost use lib.Dec.{leb};
 ghost use lib.ListN.{length};
 ghost use Rattle.model.specs.declared.types.State.{State};
-ghost use Rattle.model.specs.State.{within, lawfulNodes, lawfulVersions, lawfulState, lawfulStore};
+ghost use Rattle.model.specs.Layout.{capacity};
+ghost use Rattle.model.specs.State.{within, lawfulLength, lawfulNodes, lawfulVersions, lawfulState, lawfulStore};
 ghost use Rattle.permits.specs.Header.{headerWords, headerOf};
 use model::types::State;
 
@@ -32,11 +34,20 @@ pub fn lawful_versions(n: usize) -> bool
     (2 * words <= n) & (n <= words * (most + 1)) & (n % words == 0)
 }
 
-// Whether so many are in use beside the first of all that a table holds.
-fn in_use(used: u32, all: u32) -> bool
-    ensures { λ r. ⌜ r ≡ leb used (all - 1) ⌝ }
+// Whether a table of n words, so many to a place, is lawful and has room for the places in use beside its first.
+// n is divided once: every step asks this of both tables.
+fn holds(n: u32, words: u32, most: u32, used: u32) -> bool
+    requires { ⌜ (0 < words) × (most < 4294967295) ⌝ }
+    ensures { λ r. ⌜ r ≡ lawfulLength words most n && leb used (capacity words n) ⌝ }
 {
-    (used == 0) | (used < all)
+    let all = n / words;
+    if !within(2, most + 1, all) {
+        return false;
+    }
+    if words * all != n {
+        return false;
+    }
+    used < all
 }
 
 fn wide(n: u32) -> usize
@@ -62,16 +73,10 @@ pub fn lawful_state(h: &[u32]) -> bool
     if h[2] < h[3] {
         return false;
     }
-    if !lawful_nodes(wide(h[4])) {
+    if !holds(h[4], State::NODE_WORDS, State::NODES, h[6]) {
         return false;
     }
-    if !lawful_versions(wide(h[5])) {
-        return false;
-    }
-    if !in_use(h[6], h[4] / State::NODE_WORDS) {
-        return false;
-    }
-    in_use(h[7], h[5] / State::VERSION_WORDS)
+    holds(h[5], State::VERSION_WORDS, State::VERSIONS, h[7])
 }
 
 // The state is lawful, and the tables lent are of its lengths.

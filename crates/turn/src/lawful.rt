@@ -76,12 +76,17 @@ fn lawful_at(kind: Kind, phase: Phase, e: Effect) -> bool
     }
 }
 
-// `used` is the last node in use.
+// `used` is the last node in use. Left at the first fault: every step asks this.
 pub fn lawful(call: Call, c: Cursor, e: Effect, used: u32) -> bool
     ensures { λ r. ⌜ ((preds nodes versions : List ℕ) (n : ℕ) → r ≡ lawfulProcess (process call c e preds) (nodesIn nodes used versions n)) ⌝ }
 {
+    if State::TOP < c.level {
+        return false;
+    }
+    if used < c.pred {
+        return false;
+    }
     let kind = call.kind;
     let phase = c.phase;
-    let suited = lawful_at(kind, phase, e);
-    (c.level <= State::TOP) & (c.pred <= used) & suited
+    lawful_at(kind, phase, e)
 }

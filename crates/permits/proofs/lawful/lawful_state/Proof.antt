@@ -1,5 +1,5 @@
--- The tests are the definition's, in its order, left at the first that fails.
-use mathlib.Core.Bool.{Bool, true, false}
+-- The tests are the definition's, table by table, left at the first that fails.
+use mathlib.Core.Bool.{Bool, true, false, _&&_}
 use mathlib.Core.Path.{_≡_, refl, sym, ap, _∙_}
 use lib.Dec.{leb, eqb}
 use lib.ListN.{getD}
@@ -7,7 +7,7 @@ use borrow.Author.Tests.{not-true, not-false, le-leb, lt-leb, eq-eqb, ne-eqb}
 use Rattle.model.specs.Layout.{nodeWords, versionWords, capacity}
 use Rattle.model.specs.State.{within, lawfulNodes, lawfulVersions, lawfulState}
 use Rattle.permits.specs.Header.{bit}
-use Rattle.permits.proofs.Laws.{and-false}
+use Rattle.permits.proofs.Laws.{and-false, in-pairs}
 use borrow.Author.Needs.{needs}
 use Rattle.permits.proofs.lawful.lawful_state.Statement.{statement}
 use Rattle.permits.proofs.lawful.lawful_state.Tie as tie
@@ -20,7 +20,7 @@ shared-slice-read-if1 : tie.Need-shared-slice-read-if1
 shared-slice-read-if1 c = search needs
 
 returns : tie.Need-returns
-unfolding lawfulState capacity
+unfolding lawfulState
 returns c =
     λ s e. simp (sym (is-open (s .opened)) ∙ ap (λ h. eqb (getD h 0 0) 1) e ∙ ne-eqb _ _ (c .if1 .taken))
 
@@ -31,7 +31,7 @@ within-requires : tie.Need-within-requires
 within-requires c κs = search needs
 
 returns-2 : tie.Need-returns-2
-unfolding lawfulState capacity
+unfolding lawfulState
 returns-2 c =
     λ s e.
     simp (
@@ -46,7 +46,7 @@ within-requires-2 : tie.Need-within-requires-2
 within-requires-2 c κs = search needs
 
 returns-3 : tie.Need-returns-3
-unfolding lawfulState capacity
+unfolding lawfulState
 returns-3 c =
     λ s e.
     simp (
@@ -61,7 +61,7 @@ shared-slice-read-if4-2 : tie.Need-shared-slice-read-if4-2
 shared-slice-read-if4-2 c = search needs
 
 returns-4 : tie.Need-returns-4
-unfolding lawfulState capacity
+unfolding lawfulState
 returns-4 c =
     λ s e.
     simp (
@@ -69,94 +69,55 @@ returns-4 c =
       and-false,
     )
 
-shared-slice-read-wide : tie.Need-shared-slice-read-wide
-shared-slice-read-wide c = search needs
+shared-slice-read-holds : tie.Need-shared-slice-read-holds
+shared-slice-read-holds c = search needs
 
-wide-requires : tie.Need-wide-requires
-wide-requires c κs = search needs
+shared-slice-read-holds-2 : tie.Need-shared-slice-read-holds-2
+shared-slice-read-holds-2 c = search needs
 
-lawful-nodes-requires : tie.Need-lawful-nodes-requires
-lawful-nodes-requires c κs = search needs
+holds-requires : tie.Need-holds-requires
+holds-requires c κs = search needs
 
 returns-5 : tie.Need-returns-5
-unfolding lawfulState capacity
+unfolding lawfulState
 returns-5 c =
     λ s e.
-    simp (
-      ap (λ h. lawfulNodes (getD h 4 0)) e ∙ sym (ap lawfulNodes (c .before .before .wide .ensures))
-          ∙ sym (c .before .lawful-nodes .ensures) ∙ not-true _ (c .if5 .taken),
+    rw (in-pairs _ (lawfulNodes (s .lengths .nodes)))
+    (simp (
+      ap (λ h. lawfulNodes (getD h 4 0) && leb (getD h 6 0) (capacity nodeWords (getD h 4 0))) e
+          ∙ sym (c .before .holds .ensures) ∙ not-true _ (c .if5 .taken),
       and-false,
-    )
+    ))
 
-shared-slice-read-wide-2 : tie.Need-shared-slice-read-wide-2
-shared-slice-read-wide-2 c = search needs
+shared-slice-read-holds-3 : tie.Need-shared-slice-read-holds-3
+shared-slice-read-holds-3 c = search needs
 
-wide-requires-2 : tie.Need-wide-requires-2
-wide-requires-2 c κs = search needs
+shared-slice-read-holds-4 : tie.Need-shared-slice-read-holds-4
+shared-slice-read-holds-4 c = search needs
 
-lawful-versions-requires : tie.Need-lawful-versions-requires
-lawful-versions-requires c κs = search needs
+holds-requires-2 : tie.Need-holds-requires-2
+holds-requires-2 c κs = search needs
 
 returns-6 : tie.Need-returns-6
-unfolding lawfulState capacity
+unfolding lawfulState
 returns-6 c =
     λ s e.
-    simp (
-      ap (λ h. lawfulVersions (getD h 5 0)) e ∙ sym (ap lawfulVersions (c .before .before .wide2 .ensures))
-          ∙ sym (c .before .lawful-versions .ensures) ∙ not-true _ (c .if6 .taken),
-      and-false,
-    )
-
-shared-slice-read-in-use : tie.Need-shared-slice-read-in-use
-shared-slice-read-in-use c = search needs
-
-shared-slice-read-in-use-2 : tie.Need-shared-slice-read-in-use-2
-shared-slice-read-in-use-2 c = search needs
-
-in-use-requires : tie.Need-in-use-requires
-in-use-requires c κs = search needs
-
-returns-7 : tie.Need-returns-7
-unfolding lawfulState capacity
-returns-7 c =
-    λ s e.
-    simp (
-      ap (λ h. leb (getD h 6 0) (capacity nodeWords (getD h 4 0))) e ∙ sym (c .before .in-use .ensures) ∙ not-true _ (c .if7 .taken),
-      and-false,
-    )
-
-shared-slice-read-in-use-3 : tie.Need-shared-slice-read-in-use-3
-shared-slice-read-in-use-3 c = search needs
-
-shared-slice-read-in-use-4 : tie.Need-shared-slice-read-in-use-4
-shared-slice-read-in-use-4 c = search needs
-
-in-use-requires-2 : tie.Need-in-use-requires-2
-in-use-requires-2 c κs = search needs
-
-returns-8 : tie.Need-returns-8
-unfolding lawfulState capacity
-returns-8 c =
-    λ s e.
-    let seven = c .before .before .before in
-    let six = seven .before .before .before .before in
-    let five = six .before .before .before .before in
+    let five = c .before .before .before in
     let four = five .before .before .before .before in
     let three = four .before .before .before in
     let two = three .before .before .before in
     let one = two .before .before .before in
-    simp (
+    rw (in-pairs _ (lawfulNodes (s .lengths .nodes)))
+    (simp (
       sym (is-open (s .opened)) ∙ ap (λ h. eqb (getD h 0 0) 1) e ∙ eq-eqb _ _ (one .if1 .left),
       ap (λ h. within 1 8 (getD h 1 0)) e ∙ sym (two .before .within .ensures) ∙ not-false _ (two .if2 .left),
       ap (λ h. within 1 1000000000 (getD h 2 0)) e ∙ sym (three .before .within2 .ensures) ∙ not-false _ (three .if3 .left),
       ap (λ h. leb (getD h 3 0) (getD h 2 0)) e ∙ le-leb _ _ (four .if4 .left),
-      ap (λ h. lawfulNodes (getD h 4 0)) e ∙ sym (ap lawfulNodes (five .before .before .wide .ensures))
-          ∙ sym (five .before .lawful-nodes .ensures) ∙ not-false _ (five .if5 .left),
-      ap (λ h. lawfulVersions (getD h 5 0)) e ∙ sym (ap lawfulVersions (six .before .before .wide2 .ensures))
-          ∙ sym (six .before .lawful-versions .ensures) ∙ not-false _ (six .if6 .left),
-      ap (λ h. leb (getD h 6 0) (capacity nodeWords (getD h 4 0))) e ∙ sym (seven .before .in-use .ensures) ∙ not-false _ (seven .if7 .left),
+      ap (λ h. lawfulNodes (getD h 4 0) && leb (getD h 6 0) (capacity nodeWords (getD h 4 0))) e
+          ∙ sym (five .before .holds .ensures) ∙ not-false _ (five .if5 .left),
     )
-    (c .in-use2 .ensures ∙ sym (ap (λ h. leb (getD h 7 0) (capacity versionWords (getD h 5 0))) e))
+    (c .holds2 .ensures
+    ∙ sym (ap (λ h. lawfulVersions (getD h 5 0) && leb (getD h 7 0) (capacity versionWords (getD h 5 0))) e)))
 
 pub lawful-state-spec : {M : Type 1} → statement M
 lawful-state-spec =
@@ -173,19 +134,11 @@ lawful-state-spec =
     shared-slice-read-if4
     shared-slice-read-if4-2
     returns-4
-    shared-slice-read-wide
-    wide-requires
-    lawful-nodes-requires
+    shared-slice-read-holds
+    shared-slice-read-holds-2
+    holds-requires
     returns-5
-    shared-slice-read-wide-2
-    wide-requires-2
-    lawful-versions-requires
-    returns-6
-    shared-slice-read-in-use
-    shared-slice-read-in-use-2
-    in-use-requires
-    returns-7
-    shared-slice-read-in-use-3
-    shared-slice-read-in-use-4
-    in-use-requires-2
-    returns-8)
+    shared-slice-read-holds-3
+    shared-slice-read-holds-4
+    holds-requires-2
+    returns-6)
