@@ -8,15 +8,17 @@ use lib.ListN.{length, take, drop}
 use lib.Seq.{sets, sets-eq}
 use borrow.Rule.Slice.PartMut.{putMid, put-same}
 use Rattle.model.specs.declared.types.Counts.{Counts}
+use Rattle.model.specs.declared.types.Cursor.{Cursor}
 use Rattle.model.specs.declared.types.Move.{Move}
-use Rattle.model.specs.declared.types.Move.the-variants.{Refuse, Wait}
+use Rattle.model.specs.declared.types.Move.the-variants.{Refuse, Wait, Go}
 use Rattle.model.specs.declared.types.Process.{Process}
 use Rattle.model.specs.declared.types.Refusal.the-variants.{Damaged}
 use Rattle.model.specs.declared.types.Stepping.{Stepping}
 use Rattle.model.specs.Calls.{processAfter, outcomeOf, tallyAfter}
 use Rattle.phases.specs.Turn.{refuses}
-use Rattle.words.specs.Layout.{sizes, processWords, processFrom, knownProcess}
+use Rattle.words.specs.Layout.{sizes, cursorWords, processWords, processFrom, knownProcess}
 use Rattle.words.proofs.Laws.{process-back, putEvent}
+use Rattle.words.proofs.Applied.{goes}
 use Rattle.words.proofs.Known.{part-is, part-long}
 use Rattle.words.proofs.Whole.{put-part}
 use Rattle.inplace.specs.Leave.{LeftIn, standing, leaveIn}
@@ -51,11 +53,22 @@ module _ (w tally : List ℕ) (at tick : ℕ) (counts : Counts) where
         ∙ ap (λ p. putEvent (sets w at p) tick counts) (is ∙ ap (λ r. processWords (processAfter tick (processFrom r) v)) here) in
         simp (written, out ∙ ap (λ r. outcomeOf tick (processFrom r .call) v) here, counted, e)
 
-    pub left-waits : (u : List ℕ) → knownProcess (take (sizes .process) (drop at w)) ≡ true → u ≡ putEvent w tick counts
-        → record { outcome = Stepping.Waited tick; words = u; tally = tally } ≡ leaveIn tick counts Wait w at tally
-    unfolding outcomeOf tallyAfter processAfter
-    left-waits u known put =
-        let long = part-long w at fits in
-        let own = ap knownProcess (part-is w at) ∙ known in
-        left-moved Wait lentPart u tally (Stepping.Waited tick) refl (sym (process-back lentPart long own)) long
-        (put ∙ ap (λ r. putEvent r tick counts) (sym (put-same at (at + 18 - at) w))) refl refl
+    module _ (known : knownProcess (take (sizes .process) (drop at w)) ≡ true) where
+      own : knownProcess lentPart ≡ true
+      own = ap knownProcess (part-is w at) ∙ known
+
+      pub left-waits : (u : List ℕ) → u ≡ putEvent w tick counts
+          → record { outcome = Stepping.Waited tick; words = u; tally = tally } ≡ leaveIn tick counts Wait w at tally
+      unfolding outcomeOf tallyAfter processAfter
+      left-waits u put =
+          let long = part-long w at fits in
+          left-moved Wait lentPart u tally (Stepping.Waited tick) refl (sym (process-back lentPart long own)) long
+          (put ∙ ap (λ r. putEvent r tick counts) (sym (put-same at (at + 18 - at) w))) refl refl
+
+      pub left-goes : (v : Move) (c : Cursor) (part u : List ℕ) → v ≡ Go c → part ≡ sets lentPart 6 (cursorWords c)
+          → length part ≡ sizes .process → u ≡ putEvent (putMid at (at + sizes .process - at) w part) tick counts
+          → record { outcome = Stepping.Moved tick; words = u; tally = tally } ≡ leaveIn tick counts v w at tally
+      unfolding outcomeOf tallyAfter
+      left-goes v c part u e is long put =
+          left-moved (Go c) part u tally (Stepping.Moved tick) refl (is ∙ goes lentPart (part-long w at fits) own tick c) long put refl refl
+          ∙ ap (λ v. leaveIn tick counts v w at tally) (sym e)

@@ -18,9 +18,9 @@ use model::types::Version;
 use store::after::count_end;
 use store::after::outcome_of;
 use words::process::apply_commit;
-use words::process::apply_go;
 use words::process::apply_note;
 use words::process::call_in;
+use words::process::put_cursor;
 use words::process::put_process;
 use words::state::put_event;
 use words::types::Sizes;
@@ -76,7 +76,14 @@ pub fn leave(
             Stepping::Waited(tick)
         }
         Move::Go(cursor) => {
-            apply_go(&mut words[at..to], cursor);
+            let phase = cursor.phase;
+            put_cursor(
+                &mut words[at..to],
+                phase,
+                cursor.level,
+                cursor.pred,
+                cursor.made,
+            );
             put_event(words, tick, counts);
             Stepping::Moved(tick)
         }

@@ -6,7 +6,7 @@ ghost use Prim.Native.Nat.{ℕ, _≤_};
 ghost use mathlib.Core.Bool.{true};
 ghost use Rattle.model.specs.Layout.{topLevel};
 ghost use Rattle.model.specs.Calls.{processAfter};
-ghost use Rattle.model.specs.declared.types.Move.the-variants.{Go, Note, Commit};
+ghost use Rattle.model.specs.declared.types.Move.the-variants.{Note, Commit};
 ghost use lib.Seq.{sets};
 use crate::numbers::answer_of;
 use crate::numbers::kind_number;
@@ -18,6 +18,7 @@ use model::types::Answer;
 use model::types::Call;
 use model::types::Cursor;
 use model::types::Effect;
+use model::types::Phase;
 use model::types::Process;
 
 pub fn call_in(w: &[u32]) -> Call
@@ -125,16 +126,16 @@ pub fn words_of(p: Process) -> [u32; 18]
     ]
 }
 
-// Each writer writes its own words and no other.
-pub fn put_cursor(w: &mut [u32], c: Cursor)
+// Each writer writes its own words and no other. A cursor's are given one by one: a struct would be packed and unpacked at
+// every step.
+pub fn put_cursor(w: &mut [u32], phase: Phase, level: u32, pred: u32, made: u32)
     requires { ⌜ length (now w) ≡ sizes .process ⌝ }
-    ensures { λ r. ⌜ now (w .exit) ≡ sets (now (w .entry)) 6 (cursorWords c) ⌝ }
+    ensures { λ r. ⌜ now (w .exit) ≡ sets (now (w .entry)) 6 (cursorWords (record { phase = phase; level = level; pred = pred; made = made })) ⌝ }
 {
-    let phase = c.phase;
     w[6] = phase_number(phase);
-    w[7] = c.level;
-    w[8] = c.pred;
-    w[9] = c.made;
+    w[7] = level;
+    w[8] = pred;
+    w[9] = made;
 }
 
 pub fn put_effect(w: &mut [u32], e: Effect)
@@ -179,21 +180,14 @@ pub fn put_process(w: &mut [u32], p: Process)
     let cursor = p.cursor;
     let effect = p.effect;
     let preds = p.preds;
+    let phase = cursor.phase;
     put_call(w, call);
-    put_cursor(w, cursor);
+    put_cursor(w, phase, cursor.level, cursor.pred, cursor.made);
     put_effect(w, effect);
     put_preds(w, preds);
 }
 
-// What each move leaves of its process, in place: only the words that it changes are written.
-pub fn apply_go(w: &mut [u32], cursor: Cursor)
-    requires { ⌜ length (now w) ≡ sizes .process ⌝ }
-    requires { ⌜ knownProcess (now w) ≡ true ⌝ }
-    ensures { λ r. ⌜ ((tick : ℕ) → now (w .exit) ≡ processWords (processAfter tick (processFrom (now (w .entry))) (Go cursor))) ⌝ }
-{
-    put_cursor(w, cursor);
-}
-
+// What a move leaves of its process beside the cursor, in place: only the words that it changes are written.
 // The predecessor is remembered at its level before the cursor leaves it.
 pub fn apply_note(w: &mut [u32], cursor: Cursor)
     requires { ⌜ length (now w) ≡ sizes .process ⌝ }
@@ -203,7 +197,8 @@ pub fn apply_note(w: &mut [u32], cursor: Cursor)
 {
     let at = 12 + w[7] as usize;
     w[at] = w[8];
-    put_cursor(w, cursor);
+    let phase = cursor.phase;
+    put_cursor(w, phase, cursor.level, cursor.pred, cursor.made);
 }
 
 pub fn apply_commit(w: &mut [u32], tick: u32, cursor: Cursor, answer: Answer)
@@ -211,7 +206,8 @@ pub fn apply_commit(w: &mut [u32], tick: u32, cursor: Cursor, answer: Answer)
     requires { ⌜ knownProcess (now w) ≡ true ⌝ }
     ensures { λ r. ⌜ now (w .exit) ≡ processWords (processAfter tick (processFrom (now (w .entry))) (Commit cursor answer)) ⌝ }
 {
-    put_cursor(w, cursor);
+    let phase = cursor.phase;
+    put_cursor(w, phase, cursor.level, cursor.pred, cursor.made);
     let effect = Effect { answer, tick };
     put_effect(w, effect);
 }

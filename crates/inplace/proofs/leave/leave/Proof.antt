@@ -9,7 +9,7 @@ use Rattle.model.specs.Calls.{outcomeOf, tallyAfter}
 use Rattle.phases.specs.Turn.{refuses}
 use Rattle.words.specs.Layout.{sizes, processFrom, knownProcess}
 use Rattle.words.proofs.Known.{part-is, part-long}
-use Rattle.inplace.proofs.Left.{left-refused, left-moved, left-waits}
+use Rattle.inplace.proofs.Left.{left-refused, left-moved, left-waits, left-goes}
 use borrow.Author.Needs.{needs}
 use Rattle.inplace.proofs.leave.leave.Statement.{statement}
 use Rattle.inplace.proofs.leave.leave.Tie as tie
@@ -38,20 +38,20 @@ put-event-requires c κs = search needs
 enum-known-mv : tie.Need-enum-known-mv
 enum-known-mv c = search needs
 
-mul-apply-go : tie.Need-mul-apply-go
-mul-apply-go c = search needs
+mul-put-cursor : tie.Need-mul-put-cursor
+mul-put-cursor c = search needs
 
-sub-apply-go : tie.Need-sub-apply-go
-sub-apply-go c = search needs
+sub-put-cursor : tie.Need-sub-put-cursor
+sub-put-cursor c = search needs
 
-part-apply-go-start : tie.Need-part-apply-go-start
-part-apply-go-start c = search needs
+part-put-cursor-start : tie.Need-part-put-cursor-start
+part-put-cursor-start c = search needs
 
-part-apply-go-end : tie.Need-part-apply-go-end
-part-apply-go-end c = search needs
+part-put-cursor-end : tie.Need-part-put-cursor-end
+part-put-cursor-end c = search needs
 
-apply-go-requires : tie.Need-apply-go-requires
-apply-go-requires c κs = let s = c .before .before .before .before .before .before in (long s, own s)
+put-cursor-requires : tie.Need-put-cursor-requires
+put-cursor-requires c κs = long (c .before .before .before .before .before .before)
 
 put-event-requires-2 : tie.Need-put-event-requires-2
 put-event-requires-2 c κs = search needs
@@ -119,20 +119,20 @@ returns-2 : tie.Need-returns-2
 returns-2 c =
     let s = c .before .before .before .before .before .before .before .before in
     let a = s .args in
-    rw (c .before .before .before .before .enum-told2 .given .1) (left-waits (a .words .now) _ (a .at) (a .tick) (a .counts) (fits s) _ (s .pre .1 .1 .0)
+    rw (c .before .before .before .before .enum-told2 .given .1) (left-waits (a .words .now) _ (a .at) (a .tick) (a .counts) (fits s) (s .pre .1 .1 .0) _
     (c .before .before .put-event .ensures))
 
 same-length-2 : tie.Need-same-length-2
 same-length-2 c = search needs
 
 returns-3 : tie.Need-returns-3
-unfolding outcomeOf tallyAfter
 returns-3 c =
     let s = c .before .before .before .before .before .before .before .before .before .before .before .before .before in
     let a = s .args in
-    let p = c .before .before .before .before .before .before .apply-go in
-    rw (c .before .before .before .before .before .before .before .before .before .mv .given .1) (left-moved (a .words .now) _ (a .at) (a .tick) (a .counts) (fits s) _ (p .last .0) _ _ _ refl
-    (p .ensures (a .tick)) (p .kept .0 ∙ long s) (c .before .before .put-event2 .ensures) refl refl)
+    let p = c .before .before .before .before .before .before .put-cursor in
+    left-goes (a .words .now) _ (a .at) (a .tick) (a .counts) (fits s) (s .pre .1 .1 .0) _ _ (p .last .0) _
+    (c .before .before .before .before .before .before .before .before .before .mv .given .1) (p .ensures) (p .kept .0 ∙ long s)
+    (c .before .before .put-event2 .ensures)
 
 same-length-3 : tie.Need-same-length-3
 same-length-3 c = search needs
@@ -176,11 +176,11 @@ leave-spec =
     enum-told-2
     put-event-requires
     enum-known-mv
-    mul-apply-go
-    sub-apply-go
-    part-apply-go-start
-    part-apply-go-end
-    apply-go-requires
+    mul-put-cursor
+    sub-put-cursor
+    part-put-cursor-start
+    part-put-cursor-end
+    put-cursor-requires
     put-event-requires-2
     enum-known-mv-2
     mul-apply-note
