@@ -3,7 +3,8 @@ ghost use mathlib.Core.Path.{_≡_};
 ghost use mathlib.Core.List.{List};
 ghost use Prim.Native.Nat.{ℕ};
 ghost use Rattle.model.specs.declared.types.Kind.the-variants.{Put, Get};
-ghost use Rattle.model.specs.Phases.{fromPut, lawfulAt, lawfulProcess};
+ghost use mathlib.Core.Bool.{_||_};
+ghost use Rattle.model.specs.Phases.{fromPut, noEffect, lawfulAt, lawfulProcess};
 ghost use Rattle.tables.specs.Room.{nodesIn};
 ghost use Rattle.turn.specs.Process.{process};
 use model::types::Answer;
@@ -46,23 +47,33 @@ fn lawful_get(phase: Phase, e: Effect) -> bool
     }
 }
 
-// A put never reads; where it took effect, and at release, its answer is a put's.
-fn lawful_put(phase: Phase, e: Effect) -> bool
-    ensures { λ r. ⌜ r ≡ lawfulAt Put phase e ⌝ }
+// Where a put has taken effect, its answer is a put's.
+fn suits_put(e: Effect) -> bool
+    ensures { λ r. ⌜ r ≡ (noEffect e || fromPut (e .answer)) ⌝ }
 {
     let answer = e.answer;
     let answered = from_put(answer);
-    let right = (e.tick == 0) | answered;
+    (e.tick == 0) | answered
+}
+
+// A put never reads, and at release it has its answer. Each arm asks for itself, so that a walk, the most of all steps,
+// goes on without a second look at its phase.
+fn lawful_put(phase: Phase, e: Effect) -> bool
+    ensures { λ r. ⌜ r ≡ lawfulAt Put phase e ⌝ }
+{
     match phase {
-        Phase::Walk => right,
+        Phase::Walk => suits_put(e),
         Phase::Read => false,
-        Phase::Seek => right,
-        Phase::Lock => right,
-        Phase::Check => right,
-        Phase::Update => right,
-        Phase::Make => right,
-        Phase::Link => right,
-        Phase::Release => answered,
+        Phase::Seek => suits_put(e),
+        Phase::Lock => suits_put(e),
+        Phase::Check => suits_put(e),
+        Phase::Update => suits_put(e),
+        Phase::Make => suits_put(e),
+        Phase::Link => suits_put(e),
+        Phase::Release => {
+            let answer = e.answer;
+            from_put(answer)
+        }
     }
 }
 
