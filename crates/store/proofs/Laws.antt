@@ -1,5 +1,5 @@
 -- What a granted permit tells, and that a step is its advance put into the state.
-use Prim.Native.Nat.{ℕ, _+_, _≤_}
+use Prim.Native.Nat.{ℕ, _+_, _≤_, _<_}
 use mathlib.Core.Bool.{Bool, true, false}
 use mathlib.Core.List.{List}
 use mathlib.Core.Path.{_≡_, refl, sym, ap, _∙_}
@@ -7,12 +7,13 @@ use native.Mathlib.Omega.{arith}
 use Rattle.model.specs.declared.types.Counts.{Counts}
 use Rattle.model.specs.declared.types.Move.{Move}
 use Rattle.model.specs.declared.types.Move.the-variants.{Refuse, Wait, Go, Note, Commit, End}
-use Rattle.model.specs.declared.types.Permit.the-variants.{Granted}
+use Rattle.model.specs.declared.types.Permit.{Permit}
+use Rattle.model.specs.declared.types.Permit.the-variants.{Denied, Granted}
 use Rattle.model.specs.declared.types.Process.{Process}
 use Rattle.model.specs.declared.types.Refusal.the-variants.{Damaged}
 use Rattle.model.specs.declared.types.Stepping.{Stepping}
 use Rattle.model.specs.Choice.{if_then_else_}
-use Rattle.model.specs.Layout.{Memory, topLevel}
+use Rattle.model.specs.Layout.{Memory, limits, topLevel}
 use Rattle.model.specs.State.{processAt, memoryOf, withEvent}
 use Rattle.model.specs.Phases.{Moved, moved, lawfulProcess, phaseOf, turnOf}
 use Rattle.model.specs.Calls.{stepPermit, Store, Stepped, evented, storeAfter, stepBy, stepOf, processAfter, outcomeOf, tallyAfter}
@@ -20,8 +21,8 @@ use Rattle.model.proofs.Laws.{turn-keeps}
 use Rattle.tables.specs.Room.{Lent, memory}
 use Rattle.phases.specs.Turn.{refuses}
 use Rattle.turn.proofs.Laws.{lawful-facts}
-use Rattle.permits.proofs.Laws.{MayStep}
-use Rattle.store.specs.Advance.{Advance, advanceBy, advanceOf}
+use Rattle.permits.proofs.Laws.{MayStep, may-step}
+use Rattle.store.specs.Advance.{Advance, advanceBy, advanceOf, attemptOf}
 
 -- ---- advance
 
@@ -143,3 +144,41 @@ module _
         ap (λ j. moves w j a) slot ∙ ap (moves w i) found
         ∙ moves-by w i turned f
         ∙ sym (ap (λ p. stepBy p w i turned) granted)
+
+-- denied or let pass
+module _
+    (w : Store)
+    (i j : ℕ)
+    (slot : i < limits .processes → j ≡ i)
+    (permit : Permit)
+    (tested : permit ≡ stepPermit w i)
+    (a : Advance)
+    (is : a ≡ attemptOf permit i (w .state .events) (processAt (w .state) j) (memory (w .nodes) (w .versions) (w .state .counts)) (w .tally))
+  where
+    at-slot : permit ≡ Granted → j ≡ i
+    at-slot g =
+        let f = may-step w i tested g .start in
+        let l = f .lawful .processes in
+        slot (omega (arith, f .process))
+
+    pub attempt-stays : a .refused ≡ true → stays w a ≡ stepOf w i
+    unfolding attemptOf stepOf stepBy
+    attempt-stays e = cases permit refl
+      where
+        cases : (p : Permit) → permit ≡ p → stays w a ≡ stepOf w i
+        cases (Denied r) k = simp (is, ← tested, k)
+        cases Granted k = step-stays w i j (w .state .counts) (at-slot k) refl (sym tested ∙ k) a (simp (is, k)) e
+
+    pub attempt-passed : a .refused ≡ false → permit ≡ Granted
+    unfolding attemptOf
+    attempt-passed e = cases permit refl
+      where
+        cases : (p : Permit) → permit ≡ p → permit ≡ Granted
+        cases (Denied r) k = let z : true ≡ false = simp (is, k) at e in cc
+        cases Granted k = k
+
+    pub attempt-moves : a .refused ≡ false → moves w j a ≡ stepOf w i
+    unfolding attemptOf
+    attempt-moves e =
+        let k = attempt-passed e in
+        step-moves w i j (w .state .counts) (at-slot k) refl (sym tested ∙ k) a (simp (is, k)) e

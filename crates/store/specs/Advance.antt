@@ -1,13 +1,18 @@
 -- One step of one process beside the state: what `advance` leaves.
-use Prim.Native.Nat.{ℕ}
-use mathlib.Core.Bool.{Bool}
+use Prim.Native.Nat.{ℕ, _+_, _<_}
+use mathlib.Core.Bool.{Bool, true}
 use mathlib.Core.List.{List}
+use mathlib.Core.Path.{_≡_}
+use lib.ListN.{length}
+use Rattle.model.specs.declared.types.Counts.{Counts}
+use Rattle.model.specs.declared.types.Permit.{Permit}
+use Rattle.model.specs.declared.types.Permit.the-variants.{Denied, Granted}
 use Rattle.model.specs.declared.types.Process.{Process}
 use Rattle.model.specs.declared.types.Stepping.{Stepping}
-use Rattle.model.specs.Layout.{Memory}
+use Rattle.model.specs.Layout.{Memory, limits}
 use Rattle.model.specs.Phases.{Moved, turnOf}
 use Rattle.model.specs.Calls.{processAfter, outcomeOf, tallyAfter}
-use Rattle.tables.specs.Room.{memory}
+use Rattle.tables.specs.Room.{Lent, memory}
 use Rattle.phases.specs.Turn.{refuses}
 use Rattle.store.specs.declared.types.Advanced.{Advanced}
 
@@ -29,6 +34,24 @@ advanceBy tick p tally v = record {
 
 unfoldable pub advanceOf : (holder tick : ℕ) → Process → Memory → (tally : List ℕ) → Advance
 advanceOf holder tick p m tally = advanceBy tick p tally (turnOf holder tick p m)
+
+-- a step that is denied leaves its process and the memory
+unfoldable pub attemptOf : Permit → (process events : ℕ) → Process → Memory → (tally : List ℕ) → Advance
+attemptOf (Denied r) i events p m tally = record {
+  refused = true;
+  outcome = Stepping.Refused r;
+  process = p;
+  memory = m;
+  tally = tally;
+}
+attemptOf Granted i events p m tally = advanceOf (i + 1) (events + 1) p m tally
+
+-- what a step that is let pass can count on
+pub record Passed (nodes versions : List ℕ) (counts : Counts) (tally : List ℕ) (process events : ℕ) : Type 0 where
+  pub lent : Lent nodes versions counts
+  pub answers : length tally ≡ limits .answers
+  pub few : process < limits .processes
+  pub left : events < limits .events
 
 abbrev pub advanced : Advanced → (nodes versions tally : List ℕ) → Advance
 advanced a nodes versions tally = record {

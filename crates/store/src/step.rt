@@ -2,16 +2,48 @@
 ghost use mathlib.Core.Path.{_≡_};
 ghost use Rattle.model.specs.Calls.{stepOf};
 ghost use Rattle.permits.specs.Header.{storeOf};
+ghost use Rattle.model.specs.declared.types.Permit.the-variants.{Granted};
+ghost use Rattle.tables.specs.Room.{memory};
+ghost use Rattle.store.specs.Advance.{Passed, attemptOf, advanced};
 ghost use Rattle.store.specs.Calls.{stepped};
 use crate::advance::advance;
 use crate::slot::slot;
+use crate::types::Advanced;
+use model::types::Counts;
 use model::types::Permit;
+use model::types::Process;
 use model::types::State;
 use model::types::StepResult;
 use model::types::Stepping;
 use permits::header::header_of;
 use permits::permit::step_permit;
 
+// The step if it is let pass. `events` are those before it.
+fn attempt(
+    permit: Permit,
+    p: Process,
+    counts: Counts,
+    process: u32,
+    events: u32,
+    nodes: &mut [u32],
+    versions: &mut [u32],
+    tally: &mut [u32],
+) -> Advanced
+    requires { ⌜ (permit ≡ Granted → Passed (now nodes) (now versions) counts (now tally) process events) ⌝ }
+    ensures { λ r. ⌜ advanced r (now (nodes .exit)) (now (versions .exit)) (now (tally .exit)) ≡ attemptOf permit process events p (memory (now (nodes .entry)) (now (versions .entry)) counts) (now (tally .entry)) ⌝ }
+{
+    match permit {
+        Permit::Denied(refusal) => Advanced {
+            refused: true,
+            outcome: Stepping::Refused(refusal),
+            process: p,
+            counts,
+        },
+        Permit::Granted => advance(p, counts, process + 1, events + 1, nodes, versions, tally),
+    }
+}
+
+// The state is put into the result at one place, so that it is copied twice: in and out.
 pub fn step(
     mut s: State,
     process: u32,
@@ -27,25 +59,16 @@ pub fn step(
     let kind = call.kind;
     let h = header_of(s);
     let permit = step_permit(&h, kind, nodes, versions, tally, process);
-    match permit {
-        Permit::Denied(refusal) => StepResult {
-            outcome: Stepping::Refused(refusal),
-            state: s,
-        },
-        Permit::Granted => {
-            let tick = s.events + 1;
-            let held = s.counts;
-            let a = advance(p, held, process + 1, tick, nodes, versions, tally);
-            let outcome = a.outcome;
-            if a.refused {
-                return StepResult { outcome, state: s };
-            }
-            let after = a.process;
-            let counts = a.counts;
-            s.process[i] = after;
-            s.counts = counts;
-            s.events = tick;
-            StepResult { outcome, state: s }
-        }
+    let held = s.counts;
+    let events = s.events;
+    let a = attempt(permit, p, held, process, events, nodes, versions, tally);
+    let outcome = a.outcome;
+    if !a.refused {
+        let after = a.process;
+        let counts = a.counts;
+        s.process[i] = after;
+        s.counts = counts;
+        s.events = events + 1;
     }
+    StepResult { outcome, state: s }
 }

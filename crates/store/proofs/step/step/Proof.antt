@@ -1,12 +1,13 @@
--- A step that is let pass is its advance put into the state: Laws `step-stays` and `step-moves`.
-use mathlib.Core.Path.{_≡_, refl, sym, _∙_}
+-- A step denied or refused leaves the state; any other is its advance put into it: Laws `attempt-stays` and `attempt-moves`.
+use mathlib.Core.Path.{_≡_, sym}
 use native.Mathlib.Omega.{arith}
-use borrow.Author.Needs.{needs}
-use Rattle.model.specs.Calls.{stepPermit, stepOf, stepBy}
+use borrow.Author.Tests.{not-true, not-false}
+use Rattle.model.specs.Calls.{stepPermit}
 use Rattle.permits.specs.Header.{storeOf}
-use Rattle.permits.proofs.Laws.{MayStep, may-step}
+use Rattle.permits.proofs.Laws.{may-step}
 use Rattle.store.specs.Advance.{advanced}
-use Rattle.store.proofs.Laws.{step-stays, step-moves, lent-may-step}
+use Rattle.store.proofs.Laws.{attempt-stays, attempt-passed, attempt-moves, lent-may-step}
+use borrow.Author.Needs.{needs}
 use Rattle.store.proofs.step.step.Statement.{statement}
 use Rattle.store.proofs.step.step.Tie as tie
 
@@ -20,20 +21,6 @@ permit-is c =
       same = sym (c .before .before .before .before .before .header-of .ensures);
       found = λ h. simp (c .before .before .before .before .before .before .before .before .slot .ensures .1 h);
     })
-
-may : (c : tie.After-enum-told)
-    → let a = c .before .before .before .before .before .before .before .before .before .before .before .before .before .before .args in
-    MayStep (storeOf (a .t1) (a .nodes .now) (a .versions .now) (a .tally .now)) (a .process)
-may c = may-step _ _ (permit-is (c .before .before)) (c .enum-told .given .1)
-
--- the process stands at its number
-found : (c : tie.After-enum-told)
-    → let s = c .before .before .before .before .before .before .before .before .before .before in
-    s .slot .result ≡ s .before .before .before .before .args .process
-found c =
-    let f = may c .start in
-    let l = f .lawful .processes in
-    c .before .before .before .before .before .before .before .before .before .before .slot .ensures .1 (omega (arith, f .process))
 
 slot-requires : tie.Need-slot-requires
 slot-requires c κs = search needs
@@ -53,22 +40,30 @@ slice-aggregate-step-permit c = search needs
 step-permit-requires : tie.Need-step-permit-requires
 step-permit-requires c κs = search needs
 
-enum-known-permit : tie.Need-enum-known-permit
-enum-known-permit c = search needs
+attempt-requires : tie.Need-attempt-requires
+attempt-requires c κs g =
+    let f = may-step _ _ (permit-is (c .before .before .before .before)) g in
+    let l = f .start .lawful in
+    record {
+      lent = lent-may-step _ _ f;
+      answers = f .tally;
+      few = omega (arith, f .start .process, l .processes);
+      left = omega (arith, f .start .event, l .limit);
+    }
 
-enum-told : tie.Need-enum-told
-enum-told c = search needs
+mul-after : tie.Need-mul-after
+mul-after c = let f = c .before .before .before .before .before .before .before .before .before .before .before .before .before .before .before .before .before .before .before .before .before .before .before .slot .ensures .0 in omega arith
 
-add-tick : tie.Need-add-tick
-add-tick c = let f = may c .start in let l = f .lawful .limit in omega (arith, f .event)
+element-set-from-after : tie.Need-element-set-from-after
+element-set-from-after c = c .before .before .before .before .before .before .before .before .before .before .before .before .before .before .before .before .before .before .before .before .before .before .before .slot .ensures .0
 
-add-advance : tie.Need-add-advance
-add-advance c = let f = may (c .before) .start in let l = f .lawful .processes in omega (arith, f .process)
-
-advance-requires : tie.Need-advance-requires
-advance-requires c κs =
-    let f = may (c .before .before .before .before) in
-    (lent-may-step _ _ f, f .tally)
+add-s : tie.Need-add-s
+add-s c =
+    let g = attempt-passed _ _ _ (c .before .before .before .before .before .before .before .before .before .before .before .before .before .before .before .before .before .before .before .before .before .before .before .slot .ensures .1) _ (permit-is (c .before .before .before .before .before .before .before .before .before .before .before .before .before .before .before)) (advanced (c .before .before .before .before .before .before .before .before .before .before .attempt .result) _ _ _)
+    (c .before .before .before .before .before .before .before .before .before .before .attempt .ensures) (not-true _ (c .before .before .if1 .taken)) in
+    let f = may-step _ _ (permit-is (c .before .before .before .before .before .before .before .before .before .before .before .before .before .before .before)) g .start in
+    let l = f .lawful .limit in
+    omega (arith, f .event)
 
 same-length : tie.Need-same-length
 same-length c = search needs
@@ -81,23 +76,8 @@ same-length-3 c = search needs
 
 returns : tie.Need-returns
 returns c =
-    let e = c .before .before .before .before .before .before .before .before .before .before .before .before in
-    step-stays _ _ _ _ (found e) refl
-    (sym (permit-is (e .before .before)) ∙ e .enum-told .given .1)
-    (advanced (c .before .before .before .before .before .before .before .advance .result) _ _ _)
-    (c .before .before .before .before .before .before .before .advance .ensures)
-    (c .if1 .taken)
-
-mul-after : tie.Need-mul-after
-mul-after c =
-    let e = c .before .before .before .before .before .before .before .before .before .before .before .before .before .before in
-    let f = e .before .before .before .before .before .before .before .before .before .before .slot .ensures .0 in
-    omega arith
-
-element-set-from-after : tie.Need-element-set-from-after
-element-set-from-after c =
-    let e = c .before .before .before .before .before .before .before .before .before .before .before .before .before .before in
-    e .before .before .before .before .before .before .before .before .before .before .slot .ensures .0
+    attempt-moves _ _ _ (c .before .before .before .before .before .before .before .before .before .before .before .before .before .before .before .before .before .before .before .before .before .before .before .slot .ensures .1) _ (permit-is (c .before .before .before .before .before .before .before .before .before .before .before .before .before .before .before)) (advanced (c .before .before .before .before .before .before .before .before .before .before .attempt .result) _ _ _)
+    (c .before .before .before .before .before .before .before .before .before .before .attempt .ensures) (not-true _ (c .before .before .if1 .taken))
 
 same-length-4 : tie.Need-same-length-4
 same-length-4 c = search needs
@@ -109,32 +89,29 @@ same-length-6 : tie.Need-same-length-6
 same-length-6 c = search needs
 
 returns-2 : tie.Need-returns-2
-unfolding stepOf stepBy
-returns-2 c = simp (← permit-is (c .before .before .before), c .before .permit .given .1)
-
-same-length-7 : tie.Need-same-length-7
-same-length-7 c = search needs
-
-same-length-8 : tie.Need-same-length-8
-same-length-8 c = search needs
-
-same-length-9 : tie.Need-same-length-9
-same-length-9 c = search needs
-
-returns-3 : tie.Need-returns-3
-returns-3 c =
-    let e = c .before .before .before .before .before .before .before .before .before .before .before .before .before .before in
-    step-moves _ _ _ _ (found e) refl
-    (sym (permit-is (e .before .before)) ∙ e .enum-told .given .1)
-    (advanced (c .before .before .before .before .before .before .before .before .before .advance .result) _ _ _)
-    (c .before .before .before .before .before .before .before .before .before .advance .ensures)
-    (c .before .before .if1 .left)
+returns-2 c =
+    attempt-stays _ _ _ (c .before .before .before .before .before .before .before .before .before .before .before .before .before .before .before .before .before .before .before .before .before .slot .ensures .1) _ (permit-is (c .before .before .before .before .before .before .before .before .before .before .before .before .before)) (advanced (c .before .before .before .before .before .before .before .before .attempt .result) _ _ _)
+    (c .before .before .before .before .before .before .before .before .attempt .ensures) (not-false _ (c .if1 .left))
 
 pub step-spec : {M : Type 1} → statement M
 step-spec =
     tie.close
     (tie.spec
-    slot-requires mul-p element-copy-out-p header-of-requires slice-aggregate-step-permit step-permit-requires enum-known-permit enum-told
-    add-tick add-advance advance-requires same-length same-length-2 same-length-3 returns mul-after
-    element-set-from-after same-length-4 same-length-5 same-length-6 returns-2 same-length-7 same-length-8
-    same-length-9 returns-3)
+    slot-requires
+    mul-p
+    element-copy-out-p
+    header-of-requires
+    slice-aggregate-step-permit
+    step-permit-requires
+    attempt-requires
+    mul-after
+    element-set-from-after
+    add-s
+    same-length
+    same-length-2
+    same-length-3
+    returns
+    same-length-4
+    same-length-5
+    same-length-6
+    returns-2)
