@@ -2,7 +2,7 @@
 ghost use mathlib.Core.Path.{_≡_};
 ghost use Prim.Native.Nat.{_+_, _^_, _≤_, _<_};
 ghost use lib.ListN.{length, take, drop};
-ghost use Rattle.command.specs.Commands.{bigEndian, openForm, putForm, getForm, stepForm, lookForm, inspectForm, total, commandWith, commandFrom};
+ghost use Rattle.command.specs.Commands.{bigEndian, openForm, putForm, getForm, stepForm, lookForm, total, commandWith, commandFrom};
 use crate::types::Command;
 use crate::types::Decoded;
 

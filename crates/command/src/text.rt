@@ -1,5 +1,4 @@
 // Text and numbers, written at a position of a lent buffer. Each function answers the position after it.
-ghost use mathlib.Core.Path.{_≡_};
 ghost use mathlib.Core.List.{[], _∷_, _++_};
 ghost use Prim.Native.Nat.{_+_, _≤_, _<_};
 ghost use lib.ListN.{length};

@@ -7,7 +7,7 @@ use Rattle.model.specs.declared.types.Starting.{Starting}
 use Rattle.model.specs.declared.types.Stepping.{Stepping}
 use Rattle.inplace.specs.Calls.{OpenIn, StartIn, StepIn}
 use Rattle.embed.specs.Told.{Told, openTold, startTold, stepTold}
-use Rattle.embed.specs.Calls.{TrayOpen, openReply, TrayStart, startReply, TrayStep, stepReply}
+use Rattle.embed.specs.Calls.{openReply, startReply, stepReply}
 
 pub open-told : (n : ℕ) (o : Opening) (w nodes versions : List ℕ) (s : OpenIn) → n ≡ openTold o
     → record { outcome = o; words = w; nodes = nodes; versions = versions } ≡ s

@@ -2,7 +2,6 @@
 use Prim.Native.Nat.{ℕ}
 use mathlib.Core.List.{List, [], _∷_}
 use lib.ListN.{replicate}
-use Rattle.model.specs.declared.types.Kind.{Kind}
 use Rattle.model.specs.declared.types.Finish.{Finish}
 use Rattle.model.specs.declared.types.Refusal.{Refusal}
 use Rattle.model.specs.declared.types.Opening.{Opening}

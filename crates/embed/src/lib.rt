@@ -1,7 +1,7 @@
 // The part as C links it (include/tray_store.h): numbers and lent words in, a number and answer words out. The parameters
 // are named as the header names them. Whatever the words hold, no call asks anything of them.
 ghost use mathlib.Core.Path.{_≡_};
-ghost use mathlib.Core.List.{List, [], _∷_};
+ghost use mathlib.Core.List.{[], _∷_};
 ghost use Rattle.model.specs.Layout.{limits};
 ghost use Rattle.words.specs.Layout.{sizes};
 ghost use Rattle.embed.specs.Calls.{trayNodeWords, trayReadingWords, trayOpen, trayStartPut, trayStartGet, trayStep, trayLook, trayInspect, trayStanding};

@@ -1,7 +1,7 @@
 // What C is told of an outcome: the number to return, and the answer words.
 ghost use mathlib.Core.Path.{_≡_};
-ghost use mathlib.Core.List.{List, [], _∷_};
-ghost use Rattle.embed.specs.Told.{Told, openTold, startTold, finishWords, stepTold, lookTold, inspectTold, statusTold};
+ghost use mathlib.Core.List.{[], _∷_};
+ghost use Rattle.embed.specs.Told.{openTold, startTold, finishWords, stepTold, lookTold, inspectTold, statusTold};
 use model::numbers::number_of;
 use model::numbers::place_of;
 use model::types::Finish;

@@ -1,13 +1,11 @@
 -- On words that are a state every call is: decode, the store's call, encode. On the words of a state it is the store's call.
 use Prim.Native.Nat.{ℕ, _+_, _≤_, _<_}
-use mathlib.Core.Bool.{Bool, true, false}
+use mathlib.Core.Bool.{true}
 use mathlib.Core.List.{List}
 use mathlib.Core.Path.{_≡_, refl, sym, ap, _∙_}
 use native.Mathlib.Omega.{arith}
-use lib.Dec.{ltb}
-use lib.ListN.{length, take, drop, length-set, length-drop}
+use lib.ListN.{length, drop, length-set, length-drop}
 use lib.Seq.{length-take-le}
-use borrow.Author.Tests.{ltb-true, ltb-false}
 use Rattle.model.specs.declared.types.Move.{Move}
 use Rattle.model.specs.declared.types.Move.the-variants.{Refuse, Wait, Go, Note, Commit, End}
 use Rattle.model.specs.declared.types.Permit.{Permit}
@@ -20,7 +18,7 @@ use Rattle.model.specs.Phases.{Moved, turnOf}
 use Rattle.model.specs.Calls.{processAfter, Store, evented, storeAfter, Stepped, stepPermit, stepBy, stepOf}
 use Rattle.permits.specs.Header.{storeOf}
 use Rattle.permits.proofs.Laws.{may-step}
-use Rattle.words.specs.Layout.{sizes, stateWords, stateFrom, isState, isStateAt, startOf, part, written}
+use Rattle.words.specs.Layout.{stateWords, stateFrom, isState, startOf, part, written}
 use Rattle.words.proofs.Laws.{process-at, state-back}
 use Rattle.words.proofs.Back.{process-long, Remembers, state-from, state-known}
 use Rattle.words.proofs.Written.{state-at, written-same, written-state}

@@ -1,38 +1,36 @@
 -- Steps and starts in place: what is left of one process, put into the words, is what the store's call leaves, encoded.
-use Prim.Native.Nat.{ℕ, _+_, _-_, _*_, _<_}
+use Prim.Native.Nat.{ℕ, _+_, _-_, _<_}
 use mathlib.Core.Bool.{Bool, true, false}
 use mathlib.Core.List.{List}
 use mathlib.Core.Path.{_≡_, refl, sym, ap, _∙_}
 use native.Mathlib.Omega.{arith}
 use lib.ListN.{length, getD, take, drop}
-use lib.Seq.{getD-take, getD-drop, drop-drop}
-use borrow.Rule.Slice.PartMut.{putMid, put-same}
+use lib.Seq.{getD-take, getD-drop}
+use borrow.Rule.Slice.PartMut.{putMid}
 use Rattle.model.specs.declared.types.Call.{Call}
 use Rattle.model.specs.declared.types.Counts.{Counts}
 use Rattle.model.specs.declared.types.Move.{Move}
-use Rattle.model.specs.declared.types.Move.the-variants.{Refuse}
 use Rattle.model.specs.declared.types.Permit.{Permit}
 use Rattle.model.specs.declared.types.Permit.the-variants.{Granted, Denied}
-use Rattle.model.specs.declared.types.Process.{Process}
 use Rattle.model.specs.declared.types.Refusal.{Refusal}
-use Rattle.model.specs.declared.types.Refusal.the-variants.{Corrupt, Damaged}
+use Rattle.model.specs.declared.types.Refusal.the-variants.{Corrupt}
 use Rattle.model.specs.declared.types.Starting.{Starting}
 use Rattle.model.specs.declared.types.Stepping.{Stepping}
 use Rattle.model.specs.Layout.{Memory, limits}
-use Rattle.model.specs.Phases.{Moved, moved, turnOf}
+use Rattle.model.specs.Phases.{moved, turnOf}
 use Rattle.model.specs.State.{processAt, withEvent, lawfulStore}
-use Rattle.model.specs.Calls.{processAfter, outcomeOf, tallyAfter, begun, startBy, Store, stepPermit, stepBy, stepOf}
+use Rattle.model.specs.Calls.{processAfter, begun, startBy, Store, stepPermit, stepBy, stepOf}
 use Rattle.tables.specs.Room.{memory}
 use Rattle.phases.specs.Turn.{refuses}
 use Rattle.permits.specs.Header.{headerWords, headerOf, storeOf}
 use Rattle.store.specs.Advance.{Advance, advanceBy, advanceOf}
 use Rattle.store.proofs.Laws.{stays, moves, step-stays, step-moves}
 use Rattle.words.specs.Numbers.{kindOf}
-use Rattle.words.specs.Layout.{sizes, processWords, stateWords, processFrom, stateFrom, knownProcess, knownHead, isState, isStateAt, startOf, part, written}
-use Rattle.words.proofs.Laws.{process-back, process-at, state-facts, state-back, putProcess, putEvent, event-words}
-use Rattle.words.proofs.Known.{part-is, part-long, by-none}
+use Rattle.words.specs.Layout.{sizes, processWords, stateWords, stateFrom, knownHead, isState, isStateAt, startOf, part, written}
+use Rattle.words.proofs.Laws.{process-at, state-facts, state-back, putProcess, putEvent, event-words}
+use Rattle.words.proofs.Known.{by-none}
 use Rattle.words.proofs.Whole.{put-part}
-use Rattle.words.proofs.Written.{part-facts, header-at, written-same, written-over}
+use Rattle.words.proofs.Written.{header-at, written-same, written-over}
 use Rattle.inplace.specs.Leave.{LeftIn, standing, evented, leaveIn}
 use Rattle.inplace.specs.Calls.{StartIn, startUnless, StepIn, stepWritten, stepIn}
 

@@ -1,6 +1,6 @@
 -- A part of the words, written and put back with the event, is what the move leaves.
 use Prim.Native.Nat.{ℕ, _+_, _-_, _≤_}
-use mathlib.Core.Bool.{Bool, true, false}
+use mathlib.Core.Bool.{true, false}
 use mathlib.Core.List.{List, _++_, append-assoc}
 use mathlib.Core.Path.{_≡_, refl, sym, ap, _∙_}
 use native.Mathlib.Omega.{arith}
@@ -11,7 +11,6 @@ use Rattle.model.specs.declared.types.Counts.{Counts}
 use Rattle.model.specs.declared.types.Cursor.{Cursor}
 use Rattle.model.specs.declared.types.Move.{Move}
 use Rattle.model.specs.declared.types.Move.the-variants.{Refuse, Wait, Go}
-use Rattle.model.specs.declared.types.Process.{Process}
 use Rattle.model.specs.declared.types.Refusal.the-variants.{Damaged}
 use Rattle.model.specs.declared.types.Stepping.{Stepping}
 use Rattle.model.specs.Calls.{processAfter, outcomeOf, tallyAfter}
@@ -21,7 +20,7 @@ use Rattle.words.proofs.Laws.{process-back, putEvent}
 use Rattle.words.proofs.Applied.{goes}
 use Rattle.words.proofs.Known.{part-is, part-long}
 use Rattle.words.proofs.Whole.{put-part}
-use Rattle.inplace.specs.Leave.{LeftIn, standing, leaveIn}
+use Rattle.inplace.specs.Leave.{leaveIn}
 
 -- a part put back is its words written from its place on
 pub put-sets : (w part : List ℕ) (at : ℕ) → length part ≡ sizes .process → at + sizes .process ≤ length w

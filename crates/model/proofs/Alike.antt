@@ -1,18 +1,17 @@
 -- Writes that leave nodes, keys, tops and links as they are: of a lock, and of a node's newest version.
-use Prim.Native.Nat.{ℕ, zero, suc, _+_, _*_, _≤_, _<_}
-use mathlib.Core.List.{List}
+use Prim.Native.Nat.{ℕ, suc, _+_, _≤_, _<_}
 use mathlib.Core.Logic.{_≢_}
 use mathlib.Core.Path.{_≡_, refl, sym, ap, _∙_}
 use native.Mathlib.Omega.{arith}
 use lib.ListN.{length}
 use Rattle.model.specs.Types.{Cursor, Process}
-use Rattle.model.specs.Layout.{Memory, nodeWords, capacity, word, key, newest, top, next, lock, withLock}
+use Rattle.model.specs.Layout.{Memory, nodeWords, capacity, word, key, newest, top, next, lock}
 use Rattle.model.specs.Map.{Map}
 use Rattle.model.specs.Phases.{maxNodes, withHolder}
 use Rattle.model.proofs.Tests.{by-eq}
 use Rattle.model.proofs.Words.{length-word, word-same, word-field, word-other}
-use Rattle.model.proofs.Level.{Level, kept}
-use Rattle.model.proofs.Invariant.{Ghost, In, Nodes, Book, At, Climbs, Risen}
+use Rattle.model.proofs.Level.{kept}
+use Rattle.model.proofs.Invariant.{Ghost, In, Nodes, Book, Climbs, Risen}
 use Rattle.model.proofs.Frame.{Grown, Frame}
 
 pub record Alike (m m′ : Memory) (g : Ghost) : Type 0 where

@@ -3,14 +3,13 @@
 use Prim.Native.Nat.{ℕ, zero, suc, _+_, _*_}
 use mathlib.Core.Bool.{true}
 use mathlib.Core.Path.{_≡_, refl}
-use mathlib.Core.List.{List, [], _∷_, _++_, map}
+use mathlib.Core.List.{List, [], _∷_, _++_}
 use lib.Count.{trailingZeros}
 use lib.ListN.{length, replicate}
 use Rattle.model.specs.Types.{Opening, Starting, Stepping, Looking, Inspecting, Status}
-use Rattle.model.specs.Types.{Process, Kind, Put, Get, Phase, Walk, Read, Seek, Lock, Make}
-use Rattle.model.specs.Types.{Answer, TooOld, VersionsFull, Added, KeysFull, New, Found, None}
-use Rattle.model.specs.Types.{Refusal, NodeLength, VersionLength, ProcessCount, EventLimit, NoProcess, BadKey}
-use Rattle.model.specs.Types.{Busy, NoCall, Spent, Corrupt, NoKey, NoVersion}
+use Rattle.model.specs.Types.{Process, Kind, Put, Get, Phase}
+use Rattle.model.specs.Types.{Answer, Added, New, Found}
+use Rattle.model.specs.Types.{Refusal}
 use Rattle.model.specs.Layout as Layout
 use Rattle.model.specs.Layout.{nodeWords, versionWords, limits, capacity, word}
 use Rattle.model.specs.Numbers.{numberOf, placeOf}

@@ -1,24 +1,22 @@
 -- Demand 3 is proved: the ghost list of effects is what the observer reads off answers and standing, tick by tick.
 use Prim.Native.Nat.{ℕ, zero, suc, _+_, _≤_, _<_}
-use mathlib.Core.Bool.{Bool, true, false, not}
 use mathlib.Core.List.{List, [], _∷_, _++_}
 use mathlib.Core.Logic.{_≢_, _⊎_, inl, inr}
 use mathlib.Core.Path.{_≡_, refl, sym, ap, _∙_, subst}
 use native.Mathlib.Omega.{arith}
-use lib.Dec.{T, eqb}
-use lib.ListN.{length, getD, take, List·getD-eq-default}
+use lib.Dec.{eqb}
+use lib.ListN.{length, getD, take}
 use lib.Seq.{take-suc, take-all}
-use Rattle.model.specs.Types.{Kind, Idle, Put, Get, Process, State, Looking, BadKey, Status}
+use Rattle.model.specs.Types.{Kind, Idle, Put, Get, Process, Looking, BadKey}
 use Rattle.model.specs.Choice.{if_then_else_}
-use Rattle.model.specs.Layout.{nodeWords, versionWords, capacity}
 use Rattle.model.specs.Map.{Map, lookIn}
-use Rattle.model.specs.State.{noProcess, lawfulKey, isIdle}
-use Rattle.model.specs.Calls.{Store, startPutOf, startGetOf, standing, statusOf, topOf, openOf}
-use Rattle.model.specs.History.{Action, startPut, startGet, step, look, Operation, Invoked, Completed, Query, History, Run, perform, performAll, begin}
-use Rattle.model.specs.Linearizability.{fedBy, replyOf, Effected, completedEffects, shownEffect, runningEffects, effectsOf, fedAt, mapAt, All, Distinct, Timely, Right, Shows, Answers, running, runningBelow, countsOf, Claim, Linearizable}
-use Rattle.model.proofs.Tests.{if-by, if-eq, if-yes, if-no, by-eq, by-le, eq→eqb, ne→neqb}
+use Rattle.model.specs.State.{lawfulKey, isIdle}
+use Rattle.model.specs.Calls.{Store, startPutOf, startGetOf, standing, topOf, openOf}
+use Rattle.model.specs.History.{Action, startPut, startGet, step, look, Invoked, Completed, History, Run, perform, performAll, begin}
+use Rattle.model.specs.Linearizability.{fedBy, replyOf, Effected, completedEffects, shownEffect, runningEffects, effectsOf, fedAt, mapAt, All, Distinct, Timely, Right, Shows, running, runningBelow, countsOf, Claim, Linearizable}
+use Rattle.model.proofs.Tests.{if-eq, if-no, by-eq, by-le, ne→neqb}
 use Rattle.model.proofs.Effects.{Took, nothing, took, fed, played, played-snoc, all-map, nothing≢took, Entered, Settles, told-reply}
-use Rattle.model.proofs.Live.{slot, Core, Track, Any, EndedAt, Pairs, busyBelow, Hist, Live, status-is}
+use Rattle.model.proofs.Live.{slot, Any, EndedAt, Pairs, busyBelow, Hist, Live, status-is}
 use Rattle.model.proofs.Laws.{top-at-most}
 use Rattle.model.proofs.Started.{start-live}
 use Rattle.model.proofs.Stepped.{step-live}

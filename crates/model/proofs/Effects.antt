@@ -1,17 +1,17 @@
 -- The effects of a run as a list with one entry for each event: what a call's effect is there, and that one event more
 -- changes nothing of what is past.
-use Prim.Native.Nat.{ℕ, zero, suc, _+_, _≤_, _<_}
+use Prim.Native.Nat.{ℕ, suc, _+_, _≤_, _<_}
 use mathlib.Core.List.{List, [], _∷_, _++_}
-use mathlib.Core.Logic.{_≢_, _⊎_, inl, inr}
-use mathlib.Core.Path.{_≡_, refl, sym, ap, _∙_, subst}
+use mathlib.Core.Logic.{_≢_}
+use mathlib.Core.Path.{_≡_, refl, sym, ap, _∙_}
 use native.Mathlib.Omega.{arith}
 use lib.ListN.{length, getD, take, length-append, List·getD-append, List·getD-eq-default}
 use lib.Seq.{getD-at, take-at, take-append-le}
-use Rattle.model.specs.Types.{Kind, Idle, Answer, Version, Looking, BadKey}
+use Rattle.model.specs.Types.{Looking, BadKey}
 use Rattle.model.specs.Choice.{if_then_else_}
 use Rattle.model.specs.Map.{Map, Reply, lookIn}
 use Rattle.model.specs.State.{lawfulKey}
-use Rattle.model.specs.History.{Action, step, look, Operation, Invoked, Completed, Query}
+use Rattle.model.specs.History.{Action, step, look, Invoked, Completed, Query}
 use Rattle.model.specs.Linearizability.{fedBy, replyOf, All}
 use Rattle.model.proofs.Tests.{by-eq, by-le}
 

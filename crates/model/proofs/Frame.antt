@@ -1,14 +1,12 @@
 -- What a step of one process leaves to another: nodes stay with their keys and are linked higher, and what the other has
 -- locked is as it was. So what is known of the other process still holds.
-use Prim.Native.Nat.{ℕ, zero, suc, _+_, _*_, _≤_, _<_}
-use mathlib.Core.List.{List, [], _∷_}
-use mathlib.Core.Logic.{_≢_}
-use mathlib.Core.Path.{_≡_, refl, sym, ap, _∙_}
+use Prim.Native.Nat.{ℕ, zero, suc, _≤_}
+use mathlib.Core.List.{List}
+use mathlib.Core.Path.{_≡_, refl, _∙_}
 use native.Mathlib.Omega.{arith}
-use lib.ListN.{length, getD}
 use Rattle.model.specs.Types.{Kind, Idle, Put, Get, Phase, Walk, Read, Seek, Lock, Check, Update, Make, Link, Release, Answer, TooOld, VersionsFull, Added, KeysFull, New, Found, None, Effect, Process}
 use Rattle.model.specs.Layout.{Memory, key, top, next, lock}
-use Rattle.model.proofs.Invariant.{Ghost, In, Nodes, At, Placed, PlacedOf, Clear, ClearOf, Target, TargetOf, FoundAt, FoundOf, Made, Holds, HoldsOf, Stage, StageOf, Settled, SettledOf, Ok, Fits}
+use Rattle.model.proofs.Invariant.{Ghost, In, At, Placed, Clear, Target, FoundAt, Made, Holds, Stage, StageOf, Settled, Ok, Fits}
 
 -- nodes stay, with their keys, and are linked higher; those of process i have their top and are as high as they were
 pub record Grown (m m′ : Memory) (g g′ : Ghost) (i : ℕ) : Type 0 where

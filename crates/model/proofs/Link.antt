@@ -4,18 +4,16 @@ use mathlib.Core.List.{List}
 use mathlib.Core.Logic.{_≢_}
 use mathlib.Core.Path.{_≡_, refl, sym, ap, _∙_, subst}
 use native.Mathlib.Omega.{arith}
-use lib.Dec.{T, leb}
 use lib.ListN.{length}
-use Rattle.model.specs.Types.{Kind, Put, Release, New, Cursor, Effect, Process, Go}
-use Rattle.model.specs.Choice.{if_then_else_}
-use Rattle.model.specs.Layout.{Memory, nodeWords, capacity, word, key, newest, top, next, lock, withNext}
+use Rattle.model.specs.Types.{Put, Release, New, Cursor, Process, Go}
+use Rattle.model.specs.Layout.{Memory, nodeWords, capacity, word, key, top, next, lock, withNext}
 use Rattle.model.specs.Map.{Map}
-use Rattle.model.specs.Phases.{Moved, at, usedNode, maxNodes, addLink, linkOf}
+use Rattle.model.specs.Phases.{at, usedNode, addLink, linkOf}
 use Rattle.model.specs.Calls.{processAfter}
 use Rattle.model.proofs.Tests.{if-by, by-eq, T-absurd}
 use Rattle.model.proofs.Words.{length-word, word-same, word-node, word-other}
 use Rattle.model.proofs.Level.{Level, inserted, kept}
-use Rattle.model.proofs.Invariant.{Ghost, In, Nodes, Book, At, PlacedOf, Clear, ClearOf, Made, HoldsOf, Stage, StageOf, Fits, Climbs, Risen}
+use Rattle.model.proofs.Invariant.{Ghost, In, Nodes, Book, At, PlacedOf, Clear, ClearOf, Made, HoldsOf, Stage, StageOf, Climbs, Risen}
 use Rattle.model.proofs.Frame.{Grown, Frame, placed-kept}
 use Rattle.model.proofs.Step.{Good, Result, within-T}
 use Rattle.model.proofs.Make.{changed, changed-same, changed-other}

@@ -1,28 +1,27 @@
 -- The invariant of a run: the store in order, and the observer's history explained so far by a list of effects.
-use Prim.Native.Nat.{ℕ, zero, suc, _+_, _*_, _≤_, _<_}
-use mathlib.Core.Bool.{Bool, true, false, not, _&&_}
+use Prim.Native.Nat.{ℕ, zero, suc, _+_, _≤_, _<_}
+use mathlib.Core.Bool.{Bool, true, false, not}
 use mathlib.Core.List.{List, [], _∷_, _++_}
 use mathlib.Core.Logic.{_≢_, _⊎_, inl, inr}
 use mathlib.Core.Path.{_≡_, refl, sym, ap, _∙_, subst}
 use native.Mathlib.Omega.{arith}
-use native.Mathlib.Numerals.{add-one}
 use lib.Dec.{T, eqb, leb, le→leb}
-use lib.ListN.{length, getD, set, length-set, length-append}
+use lib.ListN.{length, getD, set, length-append}
 use lib.Seq.{getD-set-same, getD-set-other}
-use Rattle.model.specs.Types.{Kind, Idle, Put, Get, Answer, Process, State, Status}
+use Rattle.model.specs.Types.{Kind, Idle, Put, Get, Answer, Process}
 use Rattle.model.specs.Choice.{if_then_else_}
 use Rattle.model.specs.Layout.{Memory, nodeWords, versionWords, capacity, top}
-use Rattle.model.specs.Map.{Map, Reply}
+use Rattle.model.specs.Map.{Map}
 use Rattle.model.specs.Numbers.{placeOf}
 use Rattle.model.specs.State.{noProcess, processAt, memoryOf, withEvent, lawfulNodes, lawfulVersions, lawfulState, lawfulStore, isIdle}
 use Rattle.model.specs.Phases.{ownVersion, maxNodes, maxVersions}
 use Rattle.model.specs.Calls.{Store, standing, statusPermit, statusBy, statusOf}
-use Rattle.model.specs.History.{Action, Operation, Invoked, noInvoked, Completed, Query, History, tickOf, invokedAt, sawRefusal}
-use Rattle.model.specs.Linearizability.{fedBy, All, answeredBy}
-use Rattle.model.proofs.Tests.{is-true, T-absurd, by-eq, by-test, if-yes, if-no, eq→eqb, ne→neqb}
+use Rattle.model.specs.History.{Action, Invoked, Completed, History, invokedAt, sawRefusal}
+use Rattle.model.specs.Linearizability.{All, answeredBy}
+use Rattle.model.proofs.Tests.{is-true, by-eq, if-yes, if-no, eq→eqb, ne→neqb}
 use Rattle.model.proofs.Invariant.{Ghost, Nodes, Book, Fits, Climbs}
 use Rattle.model.proofs.Locks.{Named}
-use Rattle.model.proofs.Effects.{Took, nothing, took, fed, played, played-snoc, all-map, nothing≢took, Entered, Settles, LookedAt, entered-grow, settles-grow, looked-grow, effect-cases}
+use Rattle.model.proofs.Effects.{Took, nothing, took, fed, played, played-snoc, all-map, Entered, Settles, LookedAt, entered-grow, settles-grow, looked-grow, effect-cases}
 
 abbrev pub memory : Store → Memory
 memory w = memoryOf (w .state) (w .nodes) (w .versions)

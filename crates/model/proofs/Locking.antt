@@ -1,23 +1,19 @@
 -- The steps that take and give back a lock: lock, check and release. Nodes, keys and links stay; who else holds a lock
 -- keeps it.
-use Prim.Native.Nat.{ℕ, zero, suc, _+_, _*_, _-_, _≤_, _<_}
-use mathlib.Core.Bool.{Bool, true, false}
-use mathlib.Core.List.{List, [], _∷_}
-use mathlib.Core.Logic.{_≢_, _⊎_, inl, inr}
+use Prim.Native.Nat.{ℕ, zero, suc, _+_, _-_, _≤_}
+use mathlib.Core.Logic.{_≢_, inr}
 use mathlib.Core.Path.{_≡_, refl, sym, ap, _∙_, subst}
 use native.Mathlib.Omega.{arith}
 use native.Mathlib.Numerals.{add-one}
-use lib.Dec.{T, eqb, ltb, leb}
-use lib.ListN.{length, getD}
-use Rattle.model.specs.Types.{Kind, Put, Phase, Seek, Lock, Check, Update, Make, Link, Release, Answer, TooOld, VersionsFull, Added, KeysFull, New, Found, None, Call, Cursor, Effect, Process, Ahead, Unused, Less, Equal, Past, Move, Refuse, Wait, Go, Note, Commit, End}
-use Rattle.model.specs.Choice.{if_then_else_}
+use lib.ListN.{getD}
+use Rattle.model.specs.Types.{Put, Phase, Seek, Lock, Check, Update, Make, Link, Answer, TooOld, VersionsFull, Added, KeysFull, New, Found, None, Call, Cursor, Process, Ahead, Unused, Less, Equal, Past, Move, Wait, Go}
 use Rattle.model.specs.Layout.{Memory, topLevel, key, top, next, lock}
 use Rattle.model.specs.Map.{Map}
 use Rattle.model.specs.Numbers.{placeOf, noVersion, versionWith}
-use Rattle.model.specs.Phases.{Moved, at, ownVersion, ended, ahead, withHolder, lockOf, checked, checkBy, checkOf, isNew, rise, released, freed, releaseOf}
+use Rattle.model.specs.Phases.{Moved, at, ownVersion, ended, ahead, withHolder, lockOf, checkBy, checkOf, isNew, rise, released, freed, releaseOf}
 use Rattle.model.specs.Calls.{processAfter}
 use Rattle.model.proofs.Tests.{if-eq, if-le, if-lt}
-use Rattle.model.proofs.Invariant.{Ghost, Nodes, Book, At, Placed, PlacedOf, Made, Stage, StageOf, Settled, SettledOf, HoldsOf, Fits, Climbs, Risen}
+use Rattle.model.proofs.Invariant.{Ghost, Nodes, Book, At, PlacedOf, Made, Stage, StageOf, Settled, SettledOf, HoldsOf, Fits, Climbs}
 use Rattle.model.proofs.Frame.{Grown, Frame, placed-kept, stage-of-kept, stage-kept}
 use Rattle.model.proofs.Alike.{lock-alike, lock-set, lock-book, lock-frame, nodes-kept, grown-alike, risen-alike, risen-same}
 use Rattle.model.proofs.Step.{Does, Good, Result, Related, related, link-in, not-unused, along, level6, idle-fits, still, goes}

@@ -1,19 +1,18 @@
 -- A lock that names a process is the one that it holds: kept by every step, whatever the links are.
-use Prim.Native.Nat.{ℕ, zero, suc, _+_, _*_, _≤_, _<_}
-use mathlib.Core.Bool.{Bool, not, _&&_}
+use Prim.Native.Nat.{ℕ, suc, _+_, _*_, _≤_, _<_}
+use mathlib.Core.Bool.{not}
 use mathlib.Core.List.{List}
 use mathlib.Core.Logic.{_≢_}
 use mathlib.Core.Path.{_≡_, refl, sym, ap, _∙_, subst}
 use native.Mathlib.Omega.{arith}
-use lib.Dec.{T, eqb, ltb, leb, leb→le}
-use lib.ListN.{length, getD}
-use Rattle.model.specs.Types.{Kind, Idle, Put, Get, Phase, Walk, Read, Seek, Lock, Check, Update, Make, Link, Release, Answer, Call, Cursor, Effect, Process, Ahead, Unused, Less, Equal, Past, Move, Refuse, Wait, Go, Note, Commit, End}
-use Rattle.model.specs.Choice.{if_then_else_}
+use lib.Dec.{eqb}
+use lib.ListN.{length}
+use Rattle.model.specs.Types.{Idle, Phase, Walk, Read, Seek, Lock, Check, Update, Make, Link, Release, Answer, Cursor, Process, Ahead, Unused, Less, Equal, Past, Move, Refuse, Wait, Go, Note, Commit, End}
 use Rattle.model.specs.Layout.{Memory, topLevel, word, key, newest, next, lock, timestamp, withWord}
 use Rattle.model.specs.Phases.{Moved, moved, at, aheadOf, usedNode, usedVersion, maxNodes, maxVersions, withHolder, lockOf, checked, checkBy, checkOf, committed, addVersion, updateNode, updateAt, updateOf, addNode, makeOf, addLink, linkOf, released, freed, releaseOf, walkOf, readOf, seekOf, lawfulProcess, phaseOf, turnOf}
 use Rattle.model.specs.Calls.{processAfter}
-use Rattle.model.proofs.Tests.{if-by, if-eq, if-le, if-lt, by-eq, and→}
-use Rattle.model.proofs.Words.{length-word, word-same, word-field, word-node, node-in, node-out, node-locks}
+use Rattle.model.proofs.Tests.{if-by, if-eq, if-le, if-lt, by-eq}
+use Rattle.model.proofs.Words.{word-same, word-field, word-node, node-in, node-out, node-locks}
 
 -- the phases that hold the lock of p at L
 abbrev pub Holding : Phase → Type 0

@@ -1,24 +1,23 @@
 -- A look keeps the invariant of a run: following the node's versions shows the map's list for the key.
 use Prim.Native.Nat.{ℕ, zero, suc, _+_, _≤_, _<_}
-use mathlib.Core.Bool.{Bool, true, false, not, _&&_}
+use mathlib.Core.Bool.{Bool, true, false, not}
 use mathlib.Core.List.{List, [], _∷_}
 use mathlib.Core.Logic.{_≢_}
-use mathlib.Core.Path.{_≡_, refl, sym, ap, _∙_, subst}
+use mathlib.Core.Path.{_≡_, refl, sym, ap, _∙_}
 use native.Mathlib.Omega.{arith}
-use native.Mathlib.Numerals.{add-one}
-use lib.Dec.{T, eqb, leb, le→leb, leb→le}
+use lib.Dec.{T, eqb, leb, leb→le}
 use lib.ListN.{length, getD, take}
 use lib.Seq.{take-all}
-use Rattle.model.specs.Types.{Version, BadKey, NoKey, Damaged, Permit, Granted, Denied, Looking}
+use Rattle.model.specs.Types.{Version, BadKey, Looking}
 use Rattle.model.specs.Choice.{if_then_else_}
 use Rattle.model.specs.Layout.{Memory, limits, key, newest, prev}
-use Rattle.model.specs.Map.{Map, versionsOf, backIn, lookIn}
+use Rattle.model.specs.Map.{Map, backIn, lookIn}
 use Rattle.model.specs.Map as Seq
 use Rattle.model.specs.State.{lawfulKey}
 use Rattle.model.specs.Phases.{usedVersion}
 use Rattle.model.specs.Calls.{Store, findFrom, backFrom, lookNode, lookPermit, lookBy, lookOf}
 use Rattle.model.specs.History.{History, sawLook}
-use Rattle.model.proofs.Tests.{if-by, if-yes, if-no, if-eq, by-eq, by-test, T-absurd, is-true, and→, eq→eqb, ne→neqb, not-not}
+use Rattle.model.proofs.Tests.{if-yes, if-no, if-eq, by-eq, by-test, is-true, and→, eq→eqb, ne→neqb, not-not}
 use Rattle.model.proofs.MapLaws.{no-entry, versions-first}
 use Rattle.model.proofs.Invariant.{Ghost, Nodes, Chain, Book}
 use Rattle.model.proofs.Step.{no-node, first-at, within-T}

@@ -1,27 +1,26 @@
 -- The make step: the map's put on a key that has no list. The new node goes behind p at level 0.
 use Prim.Native.Nat.{ℕ, zero, suc, _+_, _*_, _≤_, _<_}
-use mathlib.Core.Bool.{Bool, true, false}
 use mathlib.Core.List.{List, [], _∷_, _++_}
 use mathlib.Core.Logic.{_≢_}
 use mathlib.Core.Path.{_≡_, refl, sym, ap, _∙_, subst}
 use native.Mathlib.Omega.{arith}
 use native.Mathlib.Numerals.{add-one}
-use lib.Dec.{T, eqb, ltb, leb, nleb→lt}
+use lib.Dec.{eqb, leb, nleb→lt}
 use lib.ListN.{length, getD, length-append, List·getD-append}
 use lib.Seq.{getD-at}
-use Rattle.model.specs.Types.{Kind, Put, Release, Answer, VersionsFull, KeysFull, New, None, Call, Cursor, Process, Version, Move, Commit}
+use Rattle.model.specs.Types.{Put, Release, VersionsFull, KeysFull, New, None, Call, Cursor, Process}
 use Rattle.model.specs.Choice.{if_then_else_}
 use Rattle.model.specs.Layout.{Memory, nodeWords, versionWords, topLevel, capacity, word, field, key, newest, top, next, lock, nodeRecord, withNode, withNext, withVersion}
-use Rattle.model.specs.Map.{Entry, Map, versionsOf, held, answered, putBy, putIn}
-use Rattle.model.specs.Phases.{Moved, ownVersion, maxNodes, maxVersions, committed, addNode, makeOf}
+use Rattle.model.specs.Map.{Entry, Map, answered, putBy, putIn}
+use Rattle.model.specs.Phases.{ownVersion, maxNodes, maxVersions, committed, addNode, makeOf}
 use Rattle.model.specs.Calls.{processAfter}
 use Rattle.model.proofs.Tests.{if-by, if-lt, if-yes, if-no, by-eq}
 use Rattle.model.proofs.Words.{length-word, word-same, word-node, word-other, length-node, node-in, node-out, length-version, version-in, version-out}
 use Rattle.model.proofs.Level.{Level, absent, inserted, kept}
 use Rattle.model.proofs.MapLaws.{no-entry, held-snoc}
-use Rattle.model.proofs.Invariant.{Ghost, In, Nodes, Chain, Book, At, PlacedOf, Clear, ClearOf, Made, HoldsOf, Stage, StageOf, Fits, Climbs, Risen}
+use Rattle.model.proofs.Invariant.{Ghost, In, Nodes, Chain, Book, At, PlacedOf, Clear, ClearOf, Made, HoldsOf, Climbs, Risen}
 use Rattle.model.proofs.Frame.{Grown, Frame, placed-kept}
-use Rattle.model.proofs.Step.{Does, Good, Result, none-at, no-climb}
+use Rattle.model.proofs.Step.{Good, Result, none-at, no-climb}
 use Rattle.model.proofs.Update.{chain-kept, unwritten}
 
 -- a function changed at one point

@@ -1,13 +1,12 @@
 -- Laws of the sequential map by the index of an entry: the entry with a key is the first that has it.
-use Prim.Native.Nat.{ℕ, zero, suc, _+_, _≤_, _<_}
-use mathlib.Core.List.{List, [], _∷_, _++_}
+use Prim.Native.Nat.{ℕ, zero, suc, _+_, _<_}
+use mathlib.Core.List.{[], _∷_, _++_}
 use mathlib.Core.Logic.{_≢_}
 use mathlib.Core.Path.{_≡_, refl, ap, _∙_}
 use native.Mathlib.Omega.{arith}
 use lib.Dec.{eqb}
 use lib.ListN.{length, getD, set}
 use Rattle.model.specs.Types.{Version}
-use Rattle.model.specs.Choice.{if_then_else_}
 use Rattle.model.specs.Map.{Entry, Map, versionsOf, held, pushed}
 use Rattle.model.proofs.Tests.{if-yes, if-no, eq→eqb, ne→neqb}
 

@@ -1,27 +1,25 @@
 -- An accepted opening leaves a store in order, with nothing in it and nothing to explain.
-use Prim.Native.Nat.{ℕ, zero, suc, _+_, _*_, _-_, _/_, _%_, _≤_, _<_}
-use mathlib.Core.Bool.{Bool, true, false, not, _&&_}
-use mathlib.Core.List.{List, [], _∷_}
+use Prim.Native.Nat.{ℕ, zero, suc, _+_, _*_, _-_, _%_, _≤_, _<_}
+use mathlib.Core.Bool.{Bool, true, false, not}
+use mathlib.Core.List.{List, []}
 use mathlib.Core.Logic.{_≢_}
 use mathlib.Core.Path.{_≡_, refl, sym, ap, _∙_, subst}
 use native.Mathlib.Omega.{arith}
 use lib.Dec.{T, eqb, leb, leb→le, eqb→eq}
-use lib.ListN.{length, getD, set, replicate, length-replicate, length-set}
-use lib.Seq.{getD-set-same, getD-set-other}
-use Rattle.model.specs.Types.{Kind, Idle, Walk, Answer, Refusal, Permit, Granted, Denied, Process, Opening}
-use Rattle.model.specs.Choice.{if_then_else_}
-use Rattle.model.specs.Layout.{Memory, nodeWords, versionWords, limits, capacity, word, withWord, key, top, next, lock, freshNodes}
-use Rattle.model.specs.Map.{Map, held}
+use lib.ListN.{length, getD, replicate, length-replicate}
+use Rattle.model.specs.Types.{Idle, Walk, Refusal, Permit, Granted, Denied, Process, Opening}
+use Rattle.model.specs.Layout.{Memory, nodeWords, versionWords, limits, capacity, word, key, top, next, freshNodes}
+use Rattle.model.specs.Map.{held}
 use Rattle.model.specs.Numbers.{placeOf}
 use Rattle.model.specs.State.{idleProcess, noProcess, freshState, within, lawfulLength, lawfulNodes, lawfulVersions, isIdle}
-use Rattle.model.specs.Calls.{denyIf, openPermit, Opened, openBy, openOf, Store}
+use Rattle.model.specs.Calls.{openPermit, Opened, openBy, openOf, Store}
 use Rattle.model.specs.History.{emptyHistory, begin}
 use Rattle.model.specs.Linearizability.{answeredBy}
-use Rattle.model.proofs.Tests.{if-by, and→, T-absurd, by-eq, by-le}
+use Rattle.model.proofs.Tests.{if-by, and→, by-le}
 use Rattle.model.proofs.Words.{filled, length-word, word-same, word-other}
 use Rattle.model.proofs.Level.{Level}
 use Rattle.model.proofs.Invariant.{Ghost, In, Nodes, Book, Fits}
-use Rattle.model.proofs.Effects.{nothing, took, played, nothing≢took}
+use Rattle.model.proofs.Effects.{nothing, played, nothing≢took}
 use Rattle.model.proofs.Live.{Core, Track, busyBelow, Hist, Live, slot}
 use Rattle.model.proofs.Started.{granted≢denied}
 

@@ -1,23 +1,21 @@
 -- A store in order without a running call is sound: nobody holds a lock, and every node is linked up to its top.
-use Prim.Native.Nat.{ℕ, zero, suc, _+_, _≤_, _<_}
-use mathlib.Core.Bool.{Bool, true, false, not, _&&_}
+use Prim.Native.Nat.{ℕ, zero, suc, _≤_, _<_}
+use mathlib.Core.Bool.{true}
 use mathlib.Core.List.{List, [], _∷_}
 use mathlib.Core.Logic.{_≢_}
-use mathlib.Core.Path.{_≡_, refl, sym, ap, _∙_, subst}
+use mathlib.Core.Path.{_≡_, refl, sym, ap, _∙_}
 use native.Mathlib.Omega.{arith}
-use lib.Dec.{T}
 use lib.ListN.{getD}
-use Rattle.model.specs.Types.{Kind, Idle, Put, Get, Process, Version, Granted, Inspecting, Status}
-use Rattle.model.specs.Choice.{if_then_else_}
-use Rattle.model.specs.Layout.{Memory, key, newest, top, next, lock, timestamp, prev}
+use Rattle.model.specs.Types.{Kind, Idle, Put, Get, Process, Version, Inspecting, Status}
+use Rattle.model.specs.Layout.{Memory, key, newest, top, next, lock, prev}
 use Rattle.model.specs.Map.{Map}
 use Rattle.model.specs.State.{isIdle}
 use Rattle.model.specs.Calls.{Store, standing, statusOf}
-use Rattle.model.specs.Inspection.{inspection, idleBelow, inspectPermit, inspectBy, inspectOf}
+use Rattle.model.specs.Inspection.{idleBelow, inspectPermit, inspectBy, inspectOf}
 use Rattle.model.specs.Soundness.{On, LevelSound, ChainSound, oldest, older, Sound}
 use Rattle.model.proofs.Tests.{by-eq, by-le}
 use Rattle.model.proofs.MapLaws.{no-entry}
-use Rattle.model.proofs.Invariant.{Ghost, In, Nodes, Chain, Sorted, Book}
+use Rattle.model.proofs.Invariant.{Ghost, In, Chain, Sorted}
 use Rattle.model.proofs.Inspected.{means-sound}
 use Rattle.model.proofs.Live.{memory, slot, Core, core-lawful, status-is}
 

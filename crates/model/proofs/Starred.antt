@@ -1,14 +1,13 @@
 -- Trays on the test bench: document 01's cases in one table, proved by computing both sides.
-use Prim.Native.Nat.{ℕ, _+_, _*_}
+use Prim.Native.Nat.{_+_}
 use mathlib.Core.List.{List, [], _∷_, _++_, map}
 use mathlib.Core.Path.{_≡_, refl}
 use lib.ListN.{replicate}
-use Rattle.model.specs.Types.{Opening, Starting, Stepping, Looking, Inspecting, Status}
-use Rattle.model.specs.Types.{Process, Put, Get, Phase, Walk, Read, Seek, Lock, Make}
+use Rattle.model.specs.Types.{Opening, Starting, Inspecting, Status}
+use Rattle.model.specs.Types.{Put, Get, Walk, Read, Seek, Lock, Make}
 use Rattle.model.specs.Types.{TooOld, VersionsFull, Added, KeysFull, New, Found, None}
-use Rattle.model.specs.Types.{Refusal, NodeLength, VersionLength, ProcessCount, EventLimit, NoProcess, BadKey}
+use Rattle.model.specs.Types.{NodeLength, VersionLength, ProcessCount, EventLimit, NoProcess, BadKey}
 use Rattle.model.specs.Types.{Busy, NoCall, Spent, Corrupt, NoKey, NoVersion}
-use Rattle.model.specs.Layout.{nodeWords, versionWords}
 use Rattle.model.specs.State.{idleProcess}
 use Rattle.model.specs.History.{startPut, startGet, step, look}
 use Rattle.model.proofs.Bench.{Case, call, status, inspect, tally, tables, word-of, process, observer, ledger}

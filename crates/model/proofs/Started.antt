@@ -1,28 +1,25 @@
 -- A start keeps the invariant of a run: it is refused as the observer expects, or the process begins at the head.
-use Prim.Native.Nat.{ℕ, zero, suc, _+_, _≤_, _<_}
+use Prim.Native.Nat.{ℕ, suc, _+_, _≤_, _<_}
 use mathlib.Core.Bool.{Bool, true, false, not, _&&_}
-use mathlib.Core.List.{List, [], _∷_, _++_}
-use mathlib.Core.Logic.{_≢_, inl, inr}
+use mathlib.Core.List.{[], _∷_, _++_}
+use mathlib.Core.Logic.{_≢_}
 use mathlib.Core.Path.{_≡_, refl, sym, ap, _∙_, subst}
 use native.Mathlib.Omega.{arith}
-use native.Mathlib.Numerals.{add-one}
 use lib.Dec.{T, eqb, leb, leb→le, nleb→lt}
-use lib.ListN.{length, getD, set, replicate, length-set, length-append}
+use lib.ListN.{length, getD, set, length-set, length-append}
 use lib.Seq.{getD-set-same, getD-set-other}
-use Rattle.model.specs.Types.{Kind, Idle, Put, Get, Walk, None, Refusal, Call, Process, Permit, Granted, Denied, Starting}
-use Rattle.model.specs.Choice.{if_then_else_}
+use Rattle.model.specs.Types.{Kind, Idle, Put, Get, Walk, Refusal, Call, Process, Permit, Granted, Denied, Starting}
 use Rattle.model.specs.Layout.{limits}
-use Rattle.model.specs.Map.{Map}
 use Rattle.model.specs.Numbers.{numberOf}
 use Rattle.model.specs.State.{noProcess, lawfulKey, isIdle, withEvent}
-use Rattle.model.specs.Calls.{denyIf, Store, startPermit, begun, startBy}
+use Rattle.model.specs.Calls.{Store, startPermit, begun, startBy}
 use Rattle.model.specs.History.{Action, Operation, Invoked, History, tickOf, startDue, isGranted, isDenied, unless, invokedAt, sawRefusal, sawStart, withState}
-use Rattle.model.specs.Linearizability.{fedBy, All}
-use Rattle.model.proofs.Tests.{if-by, and→, T-absurd, by-eq, eq→eqb}
+use Rattle.model.specs.Linearizability.{All}
+use Rattle.model.proofs.Tests.{if-by, and→, by-eq, eq→eqb}
 use Rattle.model.proofs.Words.{filled}
-use Rattle.model.proofs.Invariant.{Ghost, At, Placed, PlacedOf, Fits, Climbs}
-use Rattle.model.proofs.Effects.{nothing, took, fed, nothing≢took, all-map}
-use Rattle.model.proofs.Live.{memory, slot, Core, Track, Left, Before, Hist, Live, Event, event-hist, done-grow, core-lawful, idle-is, not-idle, one-busy, none-busy, busy-set, invoked-same, invoked-other, refused-live}
+use Rattle.model.proofs.Invariant.{At, PlacedOf, Fits}
+use Rattle.model.proofs.Effects.{nothing, fed, nothing≢took, all-map}
+use Rattle.model.proofs.Live.{memory, slot, Core, Hist, Live, event-hist, done-grow, core-lawful, idle-is, one-busy, none-busy, busy-set, invoked-same, invoked-other, refused-live}
 
 -- what is refused is what is due
 pub due-denied : {K W : ℕ} {w : Store} {h : History} (d : Permit) (r : Refusal) → d ≡ Denied r → Live K W w h

@@ -1,25 +1,24 @@
 -- What one step of a process keeps and does, said of its move: the statement, and the steps that write no table.
-use Prim.Native.Nat.{ℕ, zero, suc, _+_, _*_, _-_, _≤_, _<_}
+use Prim.Native.Nat.{ℕ, zero, suc, _-_, _≤_, _<_}
 use mathlib.Core.List.{List, [], _∷_}
-use mathlib.Core.Logic.{_≢_, _⊎_, inl, inr}
-use mathlib.Core.Path.{_≡_, refl, sym, ap, _∙_, subst}
+use mathlib.Core.Logic.{_≢_, _⊎_, inl}
+use mathlib.Core.Path.{_≡_, refl, sym, ap, _∙_}
 use native.Mathlib.Omega.{arith}
 use mathlib.Core.Bool.{_&&_}
-use lib.Dec.{T, eqb, ltb, leb, le→leb}
+use lib.Dec.{T, leb, le→leb}
 use lib.ListN.{length, getD, set, length-set}
 use lib.Seq.{getD-set-same, getD-set-other}
-use Rattle.model.specs.Types.{Kind, Idle, Put, Get, Phase, Walk, Read, Seek, Lock, Check, Update, Make, Link, Release, Answer, New, Found, None, Call, Cursor, Process, Version, Ahead, Unused, Less, Equal, Past, Move, Refuse, Wait, Go, Note, Commit, End}
-use Rattle.model.specs.Choice.{if_then_else_}
-use Rattle.model.specs.Layout.{Memory, key, newest, top, next, lock, value, timestamp, versionAt}
+use Rattle.model.specs.Types.{Kind, Idle, Put, Get, Walk, Read, Seek, Lock, New, Found, None, Call, Cursor, Process, Version, Ahead, Unused, Less, Equal, Past, Move, Refuse, Wait, Go, Note, Commit, End}
+use Rattle.model.specs.Layout.{Memory, key, newest, top, next, versionAt}
 use Rattle.model.specs.Map.{Map, versionsOf, putIn, answered, getBy, getFrom}
 use Rattle.model.specs.Numbers.{noVersion}
 use Rattle.model.specs.State.{idleProcess}
-use Rattle.model.specs.Phases.{Moved, at, ownVersion, ended, usedVersion, maxNodes, maxVersions, ahead, walked, descend, walkBy, walkOf, readOf, seekBy, seekOf}
+use Rattle.model.specs.Phases.{Moved, at, ownVersion, usedVersion, maxNodes, maxVersions, ahead, walked, descend, walkBy, walkOf, readOf, seekBy, seekOf}
 use Rattle.model.specs.Calls.{processAfter}
-use Rattle.model.proofs.Tests.{if-by, if-eq, if-le, if-lt, by-eq, and→, →and, T-absurd}
-use Rattle.model.proofs.Level.{Level, absent}
+use Rattle.model.proofs.Tests.{if-by, if-eq, if-lt, by-eq, →and, T-absurd}
+use Rattle.model.proofs.Level.{absent}
 use Rattle.model.proofs.MapLaws.{no-entry, First, versions-none, versions-first}
-use Rattle.model.proofs.Invariant.{Ghost, In, Nodes, Chain, Book, At, Placed, PlacedOf, Clear, ClearOf, Target, FoundAt, FoundOf, Made, Stage, StageOf, Unset, Fits, Climbs, Risen}
+use Rattle.model.proofs.Invariant.{Ghost, In, Nodes, Chain, Book, At, Placed, PlacedOf, Clear, ClearOf, Target, FoundAt, FoundOf, StageOf, Unset, Fits, Climbs, Risen}
 use Rattle.model.proofs.Frame.{Frame, frame-refl}
 use Rattle.model.proofs.Alike.{alike-refl, risen-alike, risen-same}
 

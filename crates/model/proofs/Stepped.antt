@@ -1,35 +1,34 @@
 -- A step keeps the invariant of a run: it is refused as the observer expects, or its move is quiet, takes effect as the
 -- map's put, or ends the call with what the map answers.
-use Prim.Native.Nat.{ℕ, zero, suc, _+_, _≤_, _<_}
-use mathlib.Core.Bool.{Bool, true, false, not, _&&_}
+use Prim.Native.Nat.{ℕ, suc, _+_, _≤_, _<_}
+use mathlib.Core.Bool.{_&&_}
 use mathlib.Core.List.{List, [], _∷_, _++_}
 use mathlib.Core.Logic.{_≢_, _⊎_, inl, inr}
 use mathlib.Core.Path.{_≡_, refl, sym, ap, _∙_, subst}
 use native.Mathlib.Omega.{arith}
-use native.Mathlib.Numerals.{add-one}
-use lib.Dec.{T, eqb, ltb, leb, nleb→lt}
-use lib.ListN.{length, getD, set, take, length-set, length-append}
+use lib.Dec.{eqb, ltb, leb, nleb→lt}
+use lib.ListN.{length, getD, set, length-set, length-append}
 use lib.Seq.{getD-set-same, getD-set-other}
-use Rattle.model.specs.Types.{Kind, Idle, Put, Get, Answer, TooOld, VersionsFull, Added, KeysFull, New, Found, None, Call, Cursor, Process, Version, Permit, Granted, Denied, Move, Refuse, Wait, Go, Note, Commit, End, Finish, Stepping}
+use Rattle.model.specs.Types.{Idle, Put, Get, Answer, Call, Cursor, Process, Version, Permit, Granted, Denied, Move, Refuse, Wait, Go, Note, Commit, End}
 use Rattle.model.specs.Choice.{if_then_else_}
 use Rattle.model.specs.Layout.{Memory, limits}
 use Rattle.model.specs.Map.{Map, versionsOf, held, putBy, putIn, PutResult, Reply, getFrom}
 use Rattle.model.specs.Map as Seq
 use Rattle.model.specs.Numbers.{placeOf, noVersion, versionWith}
 use Rattle.model.specs.State.{idleProcess, noProcess, isIdle, withEvent}
-use Rattle.model.specs.Phases.{Moved, moved, ownVersion, maxNodes, maxVersions, turnOf}
-use Rattle.model.specs.Calls.{Store, Stepped, stepPermit, processAfter, outcomeOf, counted, tallyAfter, evented, storeAfter, stepBy, stepOf}
+use Rattle.model.specs.Phases.{Moved, moved, ownVersion, turnOf}
+use Rattle.model.specs.Calls.{Store, stepPermit, processAfter, outcomeOf, counted, tallyAfter, evented, storeAfter, stepBy, stepOf}
 use Rattle.model.specs.History.{Action, step, Operation, Invoked, noInvoked, Completed, History, tickOf, stepDue, isGranted, unless, invokedAt, sawStep}
 use Rattle.model.specs.Linearizability.{fedBy, replyBy, replyOf, All, answeredBy}
 use Rattle.model.proofs.Laws.{place-below}
 use Rattle.model.proofs.Tests.{if-by, if-lt, if-eq, by-eq, is-true, eq→eqb}
-use Rattle.model.proofs.Invariant.{Ghost, Fits, Climbs}
+use Rattle.model.proofs.Invariant.{Climbs}
 use Rattle.model.proofs.Frame.{fits-kept}
 use Rattle.model.proofs.Step.{Does, Good}
 use Rattle.model.proofs.Turn.{turn-good}
 use Rattle.model.proofs.Locks.{Locked, step-locked}
-use Rattle.model.proofs.Effects.{Took, nothing, took, fed, played, nothing≢took, Entered, Settles, entered-grow, entered-now}
-use Rattle.model.proofs.Live.{memory, slot, Core, invokedOf, Track, Left, Hist, Live, Event, event-hist, done-grow, slot-same, core-lawful, idle-is, not-idle, one-busy, none-busy, busy-set, invoked-same, invoked-other}
+use Rattle.model.proofs.Effects.{Took, nothing, took, fed, played, nothing≢took, Entered, entered-grow, entered-now}
+use Rattle.model.proofs.Live.{memory, slot, Core, invokedOf, Hist, Live, event-hist, done-grow, slot-same, core-lawful, not-idle, one-busy, none-busy, busy-set, invoked-same, invoked-other}
 use Rattle.model.proofs.Started.{due-denied, no-fault, granted≢denied}
 
 -- ---- the tally

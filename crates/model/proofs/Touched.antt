@@ -1,13 +1,11 @@
 -- A step writes no word but those that its phase names, whatever the state and the tables hold.
 use Prim.Native.Nat.{ℕ, _+_, _≤_, _<_}
-use mathlib.Core.Bool.{Bool, not, _&&_}
-use mathlib.Core.List.{List}
-use mathlib.Core.Logic.{_≢_, _⊎_, inl, inr}
+use mathlib.Core.Bool.{not, _&&_}
+use mathlib.Core.Logic.{inl, inr}
 use mathlib.Core.Path.{_≡_, refl, _∙_}
 use native.Mathlib.Omega.{arith}
 use lib.Dec.{T, eqb, ltb, leb, leb→le}
 use Rattle.model.specs.Types.{Phase, Walk, Read, Seek, Lock, Check, Update, Make, Link, Release, Call, Cursor, Process, Ahead, Unused, Less, Equal, Past, Move, Refuse, Wait, Go, Note, Commit, End, Permit, Granted, Denied}
-use Rattle.model.specs.Choice.{if_then_else_}
 use Rattle.model.specs.Layout.{Memory, topLevel, word, field, newest, next, lock, timestamp, withNext, withNode}
 use Rattle.model.specs.State.{processAt, memoryOf}
 use Rattle.model.specs.Phases.{Moved, moved, ownVersion, usedNode, usedVersion, maxNodes, maxVersions, withHolder, lockOf, checkBy, checkOf, addVersion, updateNode, updateAt, updateOf, addNode, makeOf, addLink, linkOf, freed, releaseOf, lawfulProcess, phaseOf, turnOf, released, aheadOf}

@@ -1,17 +1,16 @@
 -- Any step of a process in order is good: the tests of every step pass, and each phase keeps the invariant.
 use Prim.Native.Nat.{ℕ, zero, suc, _+_, _≤_, _<_}
-use mathlib.Core.Bool.{Bool, true, false, not, _&&_, _||_}
+use mathlib.Core.Bool.{Bool, true, false, _||_}
 use mathlib.Core.Logic.{_≢_}
-use mathlib.Core.Path.{_≡_, refl, sym, ap, _∙_, subst}
+use mathlib.Core.Path.{_≡_, refl, sym, _∙_, subst}
 use native.Mathlib.Omega.{arith}
 use lib.Dec.{T, eqb, leb, le→leb}
-use Rattle.model.specs.Types.{Kind, Idle, Put, Get, Phase, Walk, Read, Seek, Lock, Check, Update, Make, Link, Release, Answer, TooOld, VersionsFull, Added, KeysFull, New, Found, None, Effect, Process}
-use Rattle.model.specs.Choice.{if_then_else_}
+use Rattle.model.specs.Types.{Kind, Idle, Put, Get, Phase, Walk, Read, Seek, Lock, Check, Update, Make, Link, Release, Answer, TooOld, VersionsFull, Added, KeysFull, New, Found, None, Process}
 use Rattle.model.specs.Layout.{Memory, topLevel}
 use Rattle.model.specs.Map.{Map}
-use Rattle.model.specs.Phases.{Moved, fromPut, noEffect, lawfulAt, lawfulProcess, phaseOf, turnOf}
+use Rattle.model.specs.Phases.{fromPut, noEffect, lawfulAt, lawfulProcess, phaseOf, turnOf}
 use Rattle.model.proofs.Tests.{if-by, is-true, T-absurd, eq→eqb}
-use Rattle.model.proofs.Invariant.{Ghost, Nodes, Book, At, Made, Stage, StageOf, Settled, SettledOf, Ok, Fits}
+use Rattle.model.proofs.Invariant.{Ghost, Nodes, Book, At, Stage, StageOf, Settled, Ok, Fits}
 use Rattle.model.proofs.Step.{Result, walk-good, read-good, seek-good}
 use Rattle.model.proofs.Locking.{lock-good, check-good, release-good}
 use Rattle.model.proofs.Update.{update-good}

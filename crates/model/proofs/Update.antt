@@ -1,27 +1,26 @@
 -- The update step: the map's put on a key that has a list. The new version goes in front of the node's chain.
-use Prim.Native.Nat.{ℕ, zero, suc, _+_, _*_, _≤_, _<_}
-use mathlib.Core.Bool.{Bool, true, false, not, _&&_}
+use Prim.Native.Nat.{ℕ, zero, suc, _+_, _≤_, _<_}
+use mathlib.Core.Bool.{not}
 use mathlib.Core.List.{List, [], _∷_}
 use mathlib.Core.Logic.{_≢_}
 use mathlib.Core.Path.{_≡_, refl, sym, ap, _∙_, subst}
 use native.Mathlib.Omega.{arith}
-use native.Mathlib.Numerals.{add-one}
-use lib.Dec.{T, eqb, ltb, leb, lt→ltb, le→leb}
+use lib.Dec.{ltb, leb}
 use lib.ListN.{length, getD, set, length-set}
 use lib.Seq.{getD-set-same, getD-set-other}
-use Rattle.model.specs.Types.{Kind, Put, Release, Answer, TooOld, VersionsFull, Added, New, None, Call, Cursor, Process, Version, Move, Commit}
+use Rattle.model.specs.Types.{Put, Release, Answer, TooOld, VersionsFull, Added, None, Call, Cursor, Process, Version}
 use Rattle.model.specs.Choice.{if_then_else_}
-use Rattle.model.specs.Layout.{Memory, versionWords, capacity, word, field, key, newest, top, next, lock, timestamp, withNewest, withVersion}
-use Rattle.model.specs.Map.{Map, versionsOf, held, pushed, answered, putBy, putIn}
-use Rattle.model.specs.Phases.{Moved, moved, ownVersion, usedNode, usedVersion, maxNodes, maxVersions, committed, addVersion, updateNode, updateAt, updateOf}
+use Rattle.model.specs.Layout.{Memory, versionWords, capacity, word, field, key, newest, top, next, timestamp, withNewest, withVersion}
+use Rattle.model.specs.Map.{Map, held, pushed, answered, putBy, putIn}
+use Rattle.model.specs.Phases.{ownVersion, usedNode, usedVersion, maxNodes, maxVersions, committed, addVersion, updateNode, updateAt, updateOf}
 use Rattle.model.specs.Calls.{processAfter}
-use Rattle.model.proofs.Tests.{if-by, if-lt, if-le, if-yes, if-no, by-eq, not-not, T-absurd}
+use Rattle.model.proofs.Tests.{if-by, if-yes, if-no, by-eq, T-absurd}
 use Rattle.model.proofs.Words.{length-word, word-same, word-field, word-node, length-version, version-in, version-out}
 use Rattle.model.proofs.MapLaws.{no-entry, First, versions-first, pushed-first, held-set, with-front}
-use Rattle.model.proofs.Invariant.{Ghost, In, Nodes, Chain, Below, Sorted, Book, PlacedOf, Target, TargetOf, HoldsOf, Stage, StageOf, Settled, Fits}
-use Rattle.model.proofs.Frame.{Frame, frame-refl, placed-kept, held-kept}
+use Rattle.model.proofs.Invariant.{Ghost, In, Nodes, Chain, Below, Book, PlacedOf, Target, TargetOf, HoldsOf, Settled}
+use Rattle.model.proofs.Frame.{Frame, placed-kept, held-kept}
 use Rattle.model.proofs.Alike.{Alike, nodes-kept, frame-alike, risen-alike, alike-refl}
-use Rattle.model.proofs.Step.{Does, Good, Result, still, first-at, no-climb, within-T}
+use Rattle.model.proofs.Step.{Good, Result, still, first-at, no-climb, within-T}
 
 -- a chain is kept where the versions in use are
 pub chain-kept : (t t′ : List ℕ) (n n′ : ℕ) → n ≤ n′ → ((i f : ℕ) → i ≤ n → f < 3 → field t′ i f ≡ field t i f)

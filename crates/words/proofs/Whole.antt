@@ -4,12 +4,12 @@ use mathlib.Core.List.{List, [], _∷_, _++_, append-assoc, append-nil}
 use mathlib.Core.Path.{_≡_, refl, sym, ap, subst, _∙_}
 use native.Mathlib.Omega.{arith}
 use lib.ListN.{length, getD, set, take, drop, length-append, length-drop}
-use lib.Seq.{sets, length-sets, sets-eq, length-take-le, take-all, take-at, take-suc-set, drop-drop}
+use lib.Seq.{sets, sets-eq, length-take-le, take-all, take-at, take-suc-set, drop-drop}
 use borrow.Rule.Slice.PartMut.{putMid}
 use Rattle.model.specs.declared.types.Process.{Process}
 use Rattle.model.specs.declared.types.State.{State}
 use Rattle.model.specs.Layout.{limits}
-use Rattle.words.specs.Layout.{sizes, processWords, headWords, allWords, stateWords, processFrom, allFrom, startOf}
+use Rattle.words.specs.Layout.{sizes, processWords, headWords, allWords, processFrom, allFrom, startOf}
 
 -- ---- reading
 

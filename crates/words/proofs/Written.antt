@@ -1,11 +1,11 @@
 -- What is written in place at an event: nothing where nothing happened, else the words of the state after it.
 use Prim.Native.Nat.{ℕ, zero, suc, _+_, _*_, _≤_, _<_}
-use mathlib.Core.Bool.{Bool, true, false, _&&_, and-eq-true-iff}
+use mathlib.Core.Bool.{Bool, true, false, and-eq-true-iff}
 use mathlib.Core.List.{List, [], _∷_, _++_, append-assoc}
 use mathlib.Core.Path.{_≡_, refl, sym, ap, _∙_}
 use native.Mathlib.Omega.{arith}
 use lib.Dec.{ltb}
-use lib.ListN.{length, getD, set, take, drop, length-drop, take-append-drop}
+use lib.ListN.{length, getD, take, drop, length-drop, take-append-drop}
 use lib.Seq.{sets, sets-eq, set-getD, set-out, getD-set-same, length-take-le, drop-drop}
 use borrow.Author.Tests.{ltb-true, ltb-false}
 use Rattle.model.specs.declared.types.Counts.{Counts}
@@ -15,7 +15,7 @@ use Rattle.model.specs.State.{noProcess, processAt, withEvent}
 use Rattle.permits.specs.Header.{headerWords, headerOf}
 use Rattle.words.specs.Layout.{sizes, processWords, stateWords, allFrom, stateFrom, knownProcess, allKnown, knownHead, isState, startOf, part, isStateAt, written}
 use Rattle.words.proofs.Known.{head-long, head-open, by-one, by-none}
-use Rattle.words.proofs.Laws.{heads, heads-are, bit-back, process-back, process-at, known-rest, state-facts, putProcess, putEvent, event-words}
+use Rattle.words.proofs.Laws.{heads, heads-are, bit-back, process-back, process-at, known-rest, putProcess, putEvent, event-words}
 
 -- ---- nothing happened
 
