@@ -18,7 +18,7 @@ use Rattle.model.specs.Phases.{Moved, turnOf}
 use Rattle.model.specs.Calls.{processAfter, Store, evented, storeAfter, Stepped, stepPermit, stepBy, stepOf}
 use Rattle.permits.specs.Header.{storeOf}
 use Rattle.permits.proofs.Laws.{may-step}
-use Rattle.words.specs.Layout.{stateWords, stateFrom, isState, startOf, part, written}
+use Rattle.words.specs.Layout.{sizes, stateWords, stateFrom, isState, startOf, part, written}
 use Rattle.words.proofs.Laws.{process-at, state-back}
 use Rattle.words.proofs.Back.{process-long, Remembers, state-from, state-known}
 use Rattle.words.proofs.Written.{state-at, written-same, written-state}
@@ -54,8 +54,8 @@ module _ (w nodes versions tally : List ℕ) (i : ℕ) (known : isState w ≡ tr
 
   remembers : i < limits .processes → length (processAt (stateFrom w) i .preds) ≡ levels
   remembers h =
-      let fits : startOf i + 18 ≤ length w = omega (arith, h, state-long w known) in
-      let long : length (part w i) ≡ 18 = length-take-le 18 (drop (startOf i) w) (rw length-drop (omega (arith, fits))) in
+      let fits : startOf i + sizes .process ≤ length w = omega (arith, h, state-long w known) in
+      let long : length (part w i) ≡ sizes .process = length-take-le (sizes .process) (drop (startOf i) w) (rw length-drop (omega (arith, fits))) in
       ap (λ p. length (p .preds)) (process-at w i h) ∙ length-take-le 6 (drop 12 (part w i)) (rw length-drop (omega (arith, long)))
 
   moved : i < limits .processes → (v : Move) (m : Memory) → written w i (storeAfter store i v m .state) ≡ stateWords (storeAfter store i v m .state)

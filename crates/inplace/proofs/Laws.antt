@@ -42,7 +42,7 @@ pub kind-at : (w : List ℕ) (i j : ℕ) → j ≡ i → i < limits .processes
 kind-at w i j e h =
     let zero : startOf i + 0 ≡ startOf j = omega (arith, e) in
     ap (λ p. p .call .kind) (process-at w i h)
-    ∙ ap kindOf (getD-take 18 (drop (startOf i) w) 0 0 (omega arith) ∙ getD-drop (startOf i) w 0 0 ∙ ap (λ k. getD w k 0) zero)
+    ∙ ap kindOf (getD-take (sizes .process) (drop (startOf i) w) 0 0 (omega arith) ∙ getD-drop (startOf i) w 0 0 ∙ ap (λ k. getD w k 0) zero)
 
 abbrev unchanged : Refusal → (words nodes versions tally : List ℕ) → StepIn
 unchanged r w nodes versions tally = record {
@@ -184,10 +184,10 @@ module _ (w : List ℕ) (i : ℕ) (permit : Permit) (call : ℕ → Call) where
     start-granted j events counts p v e now used slot few is put =
         let q = begun (call (stateFrom w .events + 1)) in
         ap (λ v. record { outcome = Starting.Started (events + 1); words = v })
-        (put ∙ ap (λ p. putEvent (putMid (startOf j) (startOf j + 18 - startOf j) w p) (events + 1) counts) is)
+        (put ∙ ap (λ p. putEvent (putMid (startOf j) (startOf j + sizes .process - startOf j) w p) (events + 1) counts) is)
         ∙ ap (λ e. record {
           outcome = Starting.Started (e + 1);
-          words = putEvent (putMid (startOf j) (startOf j + 18 - startOf j) w (processWords (begun (call (e + 1))))) (e + 1) counts;
+          words = putEvent (putMid (startOf j) (startOf j + sizes .process - startOf j) w (processWords (begun (call (e + 1))))) (e + 1) counts;
         })
         now
         ∙ ap (λ v. record { outcome = Starting.Started (stateFrom w .events + 1); words = v })

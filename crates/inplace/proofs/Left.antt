@@ -29,7 +29,7 @@ put-sets w part at l h =
     put-part w part at
     ∙ sym (sets-eq part w at (omega (arith, l, h))
     ∙ ap (λ k. take at w ++ part ++ drop (at + k) w) l
-    ∙ append-assoc (take at w) part (drop (at + 18) w))
+    ∙ append-assoc (take at w) part (drop (at + sizes .process) w))
 
 module _ (w tally : List ℕ) (at tick : ℕ) (counts : Counts) where
   abbrev lentPart : List ℕ
@@ -62,7 +62,7 @@ module _ (w tally : List ℕ) (at tick : ℕ) (counts : Counts) where
       left-waits u put =
           let long = part-long w at fits in
           left-moved Wait lentPart u tally (Stepping.Waited tick) refl (sym (process-back lentPart long own)) long
-          (put ∙ ap (λ r. putEvent r tick counts) (sym (put-same at (at + 18 - at) w))) refl refl
+          (put ∙ ap (λ r. putEvent r tick counts) (sym (put-same at (at + sizes .process - at) w))) refl refl
 
       pub left-goes : (v : Move) (c : Cursor) (part u : List ℕ) → v ≡ Go c → part ≡ sets lentPart 6 (cursorWords c)
           → length part ≡ sizes .process → u ≡ putEvent (putMid at (at + sizes .process - at) w part) tick counts

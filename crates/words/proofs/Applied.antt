@@ -29,8 +29,8 @@ writtenOver w p preds =
 pub over-written : (w : List ℕ) (p : Process) → length w ≡ sizes .process → length (p .preds) ≡ 6 → writtenOver w p
     (p .preds) ≡ processWords p
 over-written w p h k =
-    ap (λ w. writtenOver w p (p .preds)) (sym (spelt 18 w h))
-    ∙ ap (writtenOver (heads 18 0 w) p) (sym (spelt 6 (p .preds) k))
+    ap (λ w. writtenOver w p (p .preds)) (sym (spelt (sizes .process) w h))
+    ∙ ap (writtenOver (heads (sizes .process) 0 w) p) (sym (spelt 6 (p .preds) k))
     ∙ ap (λ preds. callWords (p .call) ++ cursorWords (p .cursor) ++ effectWords (p .effect) ++ preds) (spelt 6 (p .preds) k)
 
 set-behind : (p q : List ℕ) (l v : ℕ) → set (p ++ q) (length p + l) v ≡ p ++ set q l v

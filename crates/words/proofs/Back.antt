@@ -91,17 +91,17 @@ module _ (p : Process) (ps : List Process) (six : Remembers (p ∷ ps)) where
 
   first : take (sizes .process) (allWords (p ∷ ps)) ≡ processWords p
   unfolding allWords
-  first = take-at (processWords p) (allWords ps) 18 (process-long p own)
+  first = take-at (processWords p) (allWords ps) (sizes .process) (process-long p own)
 
   others : drop (sizes .process) (allWords (p ∷ ps)) ≡ allWords ps
   unfolding allWords
-  others = drop-at (processWords p) (allWords ps) 18 (process-long p own)
+  others = drop-at (processWords p) (allWords ps) (sizes .process) (process-long p own)
 
 pub all-from : (ps : List Process) → Remembers ps → allFrom (length ps) (allWords ps) ≡ ps
 unfolding allFrom
 all-from [] six = refl
 all-from (p ∷ ps) six =
-    ap (λ w. processFrom w ∷ allFrom (length ps) (drop 18 (allWords (p ∷ ps)))) (first p ps six)
+    ap (λ w. processFrom w ∷ allFrom (length ps) (drop (sizes .process) (allWords (p ∷ ps)))) (first p ps six)
     ∙ ap (λ w. processFrom (processWords p) ∷ allFrom (length ps) w) (others p ps six)
     ∙ ap (λ q. q ∷ allFrom (length ps) (allWords ps)) (process-from p (own p ps six))
     ∙ ap (λ r. p ∷ r) (all-from ps (rest p ps six))
@@ -110,8 +110,8 @@ all-known : (ps : List Process) → Remembers ps → allKnown (length ps) (allWo
 unfolding allKnown
 all-known [] six = refl
 all-known (p ∷ ps) six =
-    ap (λ w. if knownProcess w then allKnown (length ps) (drop 18 (allWords (p ∷ ps))) else false) (first p ps six)
-    ∙ ap (λ b. if b then allKnown (length ps) (drop 18 (allWords (p ∷ ps))) else false) (process-known p)
+    ap (λ w. if knownProcess w then allKnown (length ps) (drop (sizes .process) (allWords (p ∷ ps))) else false) (first p ps six)
+    ∙ ap (λ b. if b then allKnown (length ps) (drop (sizes .process) (allWords (p ∷ ps))) else false) (process-known p)
     ∙ ap (allKnown (length ps)) (others p ps six)
     ∙ all-known ps (rest p ps six)
 

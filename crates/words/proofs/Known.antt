@@ -17,7 +17,7 @@ pub part-is : (w : List ℕ) (at : ℕ) → take (at + sizes .process - at) (dro
 part-is w at = let e : at + sizes .process - at ≡ sizes .process = omega arith in ap (λ n. take n (drop at w)) e
 
 pub part-long : (w : List ℕ) (at : ℕ) → at + sizes .process ≤ length w → length (take (at + sizes .process - at) (drop at w)) ≡ sizes .process
-part-long w at h = ap length (part-is w at) ∙ length-take-le 18 (drop at w) (rw length-drop (omega (arith, h)))
+part-long w at h = ap length (part-is w at) ∙ length-take-le (sizes .process) (drop at w) (rw length-drop (omega (arith, h)))
 
 module _ (w : List ℕ) (at left : ℕ) (some : 0 < left) (b : Bool) (found : b ≡ knownProcess (take (at + sizes .process - at)
     (drop at w))) where
@@ -42,11 +42,11 @@ none-left w left e = rw e
 
 pub head-long : (w : List ℕ) → knownHead w ≡ true → length w ≡ sizes .state
 head-long w h =
-    let a = and-eq-true-iff (eqb (length w) 153 && eqb (getD w 0 0) 1) (ltb (getD w 1 0) 2) .0 h in
-    eqb-true _ _ (and-eq-true-iff (eqb (length w) 153) (eqb (getD w 0 0) 1) .0 (a .0) .0)
+    let a = and-eq-true-iff (eqb (length w) (sizes .state) && eqb (getD w 0 0) (sizes .version)) (ltb (getD w 1 0) 2) .0 h in
+    eqb-true _ _ (and-eq-true-iff (eqb (length w) (sizes .state)) (eqb (getD w 0 0) (sizes .version)) .0 (a .0) .0)
 
 pub head-open : (w : List ℕ) → knownHead w ≡ true → getD w 1 0 < 2
-head-open w h = ltb-true _ _ (and-eq-true-iff (eqb (length w) 153 && eqb (getD w 0 0) 1) (ltb (getD w 1 0) 2) .0 h .1)
+head-open w h = ltb-true _ _ (and-eq-true-iff (eqb (length w) (sizes .state) && eqb (getD w 0 0) (sizes .version)) (ltb (getD w 1 0) 2) .0 h .1)
 
 module _ (w : List ℕ) (i : ℕ) (b : Bool) (head : b ≡ knownHead w) where
   pub no-head : b ≡ false → (false ≡ isState w) × (false ≡ isStateAt w i)
@@ -67,4 +67,4 @@ module _ (w : List ℕ) (i : ℕ) (b : Bool) (head : b ≡ knownHead w) where
       let long = head-long w (sym head ∙ e) in
       let past : length w ≤ startOf i = omega (arith, long, h) in
       let none : drop (startOf i) w ≡ [] = drop-of-length-le w past in
-      sym (ap (λ r. knownProcess (take 18 r)) none) ∙ by-one e
+      sym (ap (λ r. knownProcess (take (sizes .process) r)) none) ∙ by-one e

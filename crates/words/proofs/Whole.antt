@@ -18,20 +18,20 @@ from-last : (i : ℕ) (w : List ℕ)
 unfolding allFrom
 from-last zero w = refl
 from-last (suc i) w =
-    let e : 18 + 18 * i ≡ 18 * suc i = omega arith in
-    ap (λ r. processFrom (take 18 w) ∷ r) (from-last i (drop 18 w))
-    ∙ ap (λ r. processFrom (take 18 w) ∷ allFrom i (drop 18 w) ++ (processFrom (take 18 r) ∷ []))
-    (drop-drop (18 * i) 18 w ∙ ap (λ k. drop k w) e)
+    let e : sizes .process + sizes .process * i ≡ sizes .process * suc i = omega arith in
+    ap (λ r. processFrom (take (sizes .process) w) ∷ r) (from-last i (drop (sizes .process) w))
+    ∙ ap (λ r. processFrom (take (sizes .process) w) ∷ allFrom i (drop (sizes .process) w) ++ (processFrom (take (sizes .process) r) ∷ []))
+    (drop-drop (sizes .process * i) (sizes .process) w ∙ ap (λ k. drop k w) e)
 
 pub read-next : (ps : List Process) (i : ℕ) (w : List ℕ) (p : Process) → i < length ps
     → take i ps ≡ allFrom i (drop (sizes .head) w) → p ≡ processFrom (take (sizes .process) (drop (startOf i) w))
     → take (i + 1) (set ps i p) ≡ allFrom (i + 1) (drop (sizes .head) w)
 read-next ps i w p h k e =
     let next : suc i ≡ i + 1 = omega arith in
-    subst (λ n. take n (set ps i p) ≡ allFrom n (drop 9 w)) next
+    subst (λ n. take n (set ps i p) ≡ allFrom n (drop (sizes .head) w)) next
     (take-suc-set ps i p h ∙ ap (λ r. r ++ (p ∷ [])) k
-    ∙ ap (λ q. allFrom i (drop 9 w) ++ (q ∷ [])) (e ∙ ap (λ r. processFrom (take 18 r)) (sym (drop-drop (18 * i) 9 w)))
-    ∙ sym (from-last i (drop 9 w)))
+    ∙ ap (λ q. allFrom i (drop (sizes .head) w) ++ (q ∷ [])) (e ∙ ap (λ r. processFrom (take (sizes .process) r)) (sym (drop-drop (sizes .process * i) (sizes .head) w)))
+    ∙ sym (from-last i (drop (sizes .head) w)))
 
 -- ---- writing
 
@@ -48,8 +48,8 @@ words-last (p ∷ ps) (suc i) d h =
 pub put-part : (w part : List ℕ) (at : ℕ)
     → putMid at (at + sizes .process - at) w part ≡ take at w ++ (part ++ drop (at + sizes .process) w)
 put-part w part at =
-    let e : at + 18 - at ≡ 18 = omega arith in
-    ap (λ k. putMid at k w part) e ∙ ap (λ r. take at w ++ (part ++ r)) (drop-drop 18 at w)
+    let e : at + sizes .process - at ≡ sizes .process = omega arith in
+    ap (λ k. putMid at k w part) e ∙ ap (λ r. take at w ++ (part ++ r)) (drop-drop (sizes .process) at w)
 
 -- the head, then the processes
 module _ (front : List ℕ) (ps : List Process) (eight : length ps ≡ limits .processes) where
@@ -62,13 +62,13 @@ module _ (front : List ℕ) (ps : List Process) (eight : length ps ≡ limits .p
       let next : suc i ≡ i + 1 = omega arith in
       let p = getD ps i d in
       let back =
-      ap (λ at. putMid at (at + 18 - at) w part) start ∙ put-part w part (startOf i)
-      ∙ sym (append-assoc (take (startOf i) w) part (drop (startOf i + 18) w)) in
+      ap (λ at. putMid at (at + sizes .process - at) w part) start ∙ put-part w part (startOf i)
+      ∙ sym (append-assoc (take (startOf i) w) part (drop (startOf i + sizes .process) w)) in
       let a : length (take (startOf i) w) ≡ startOf i = length-take-le (startOf i) w (omega (arith, h, long)) in
       let n : length (take (startOf i) w ++ part) ≡ startOf (i + 1) = length-append (take (startOf i) w) part ∙ omega (arith, a, b) in
-      let rest : length (drop (startOf i + 18) w) ≡ 153 - (startOf i + 18) = rw (length-drop, long) in (
-        ap length back ∙ length-append (take (startOf i) w ++ part) (drop (startOf i + 18) w) ∙ omega (arith, n, rest, h),
-        ap (take (startOf (i + 1))) back ∙ take-at (take (startOf i) w ++ part) (drop (startOf i + 18) w) (startOf (i + 1)) n
+      let rest : length (drop (startOf i + sizes .process) w) ≡ sizes .state - (startOf i + sizes .process) = rw (length-drop, long) in (
+        ap length back ∙ length-append (take (startOf i) w ++ part) (drop (startOf i + sizes .process) w) ∙ omega (arith, n, rest, h),
+        ap (take (startOf (i + 1))) back ∙ take-at (take (startOf i) w ++ part) (drop (startOf i + sizes .process) w) (startOf (i + 1)) n
             ∙ ap (λ r. r ++ part) k ∙ ap (λ r. front ++ allWords (take i ps) ++ r) e
             ∙ append-assoc front (allWords (take i ps)) (processWords p)
             ∙ ap (λ r. front ++ r) (sym (words-last ps i d (omega (arith, h, eight)))) ∙ ap (λ n. front ++ allWords (take n ps)) next,
@@ -82,4 +82,4 @@ module _ (front : List ℕ) (ps : List Process) (eight : length ps ≡ limits .p
 
 -- the words that the head is written over begin with it
 pub head-front : (s : State) (w : List ℕ) → length w ≡ sizes .state → take (sizes .head) (sets w 0 (headWords s)) ≡ headWords s
-head-front s w h = ap (take 9) (sets-eq (headWords s) w 0 (omega (arith, h)))
+head-front s w h = ap (take (sizes .head)) (sets-eq (headWords s) w 0 (omega (arith, h)))

@@ -26,12 +26,12 @@ sets-past (v ∷ vs) l i h = ap (λ l. sets l (suc i) vs) (set-out l i v h) ∙ 
 -- a part put where it was taken from
 pub sets-part : (w : List ℕ) (at : ℕ) → at + sizes .process ≤ length w → sets w at (take (sizes .process) (drop at w)) ≡ w
 sets-part w at h =
-    let long : length (take 18 (drop at w)) ≡ 18 = length-take-le 18 (drop at w) (rw length-drop (omega (arith, h))) in
-    sets-eq (take 18 (drop at w)) w at (rw long h)
-    ∙ ap (λ k. take at w ++ take 18 (drop at w) ++ drop (at + k) w) long
-    ∙ append-assoc (take at w) (take 18 (drop at w)) (drop (at + 18) w)
-    ∙ ap (λ r. take at w ++ (take 18 (drop at w) ++ r)) (sym (drop-drop 18 at w))
-    ∙ ap (λ r. take at w ++ r) (take-append-drop 18 (drop at w))
+    let long : length (take (sizes .process) (drop at w)) ≡ sizes .process = length-take-le (sizes .process) (drop at w) (rw length-drop (omega (arith, h))) in
+    sets-eq (take (sizes .process) (drop at w)) w at (rw long h)
+    ∙ ap (λ k. take at w ++ take (sizes .process) (drop at w) ++ drop (at + k) w) long
+    ∙ append-assoc (take at w) (take (sizes .process) (drop at w)) (drop (at + sizes .process) w)
+    ∙ ap (λ r. take at w ++ (take (sizes .process) (drop at w) ++ r)) (sym (drop-drop (sizes .process) at w))
+    ∙ ap (λ r. take at w ++ r) (take-append-drop (sizes .process) (drop at w))
     ∙ take-append-drop at w
 
 -- what the test of one process tells
@@ -46,8 +46,8 @@ process-same w i k = cases (ltb i 8) refl
     cases true e =
         let f = part-facts w i k in
         let h = ltb-true i 8 e in
-        let fits : startOf i + 18 ≤ length w = omega (arith, h, f .0) in
-        let long : length (part w i) ≡ 18 = length-take-le 18 (drop (startOf i) w) (rw length-drop (omega (arith, fits))) in
+        let fits : startOf i + sizes .process ≤ length w = omega (arith, h, f .0) in
+        let long : length (part w i) ≡ sizes .process = length-take-le (sizes .process) (drop (startOf i) w) (rw length-drop (omega (arith, fits))) in
         ap (λ p. sets w (startOf i) (processWords p)) (process-at w i h)
         ∙ ap (sets w (startOf i)) (process-back (part w i) long (f .1))
         ∙ sets-part w (startOf i) fits
@@ -89,7 +89,7 @@ written-event w i p counts k h l =
     let put : sets w (startOf i) (processWords p) ≡ putProcess w i (processWords p) =
     sets-eq (processWords p) w (startOf i) fits
     ∙ ap (λ k. take (startOf i) w ++ processWords p ++ drop (startOf i + k) w) l
-    ∙ append-assoc (take (startOf i) w) (processWords p) (drop (startOf i + 18) w) in
+    ∙ append-assoc (take (startOf i) w) (processWords p) (drop (startOf i + sizes .process) w) in
     ap (λ v. putEvent v (stateFrom w .events + 1) counts) (sym put) ∙ written-over w i p counts h
 
 -- ---- words that are a state
@@ -98,9 +98,9 @@ known-at : (n i : ℕ) (w : List ℕ) → i < n → allKnown n w ≡ true → kn
 known-at zero i w h k = let z : _≡_ {A = ℕ} 0 1 = omega (arith, h) in cc
 known-at (suc n) zero w h k = known-rest n w k .0
 known-at (suc n) (suc i) w h k =
-    let e : 18 + 18 * i ≡ 18 * suc i = omega arith in
-    ap (λ r. knownProcess (take 18 r)) (sym (drop-drop (18 * i) 18 w ∙ ap (λ k. drop k w) e))
-    ∙ known-at n i (drop 18 w) (omega (arith, h)) (known-rest n w k .1)
+    let e : sizes .process + sizes .process * i ≡ sizes .process * suc i = omega arith in
+    ap (λ r. knownProcess (take (sizes .process) r)) (sym (drop-drop (sizes .process * i) (sizes .process) w ∙ ap (λ k. drop k w) e))
+    ∙ known-at n i (drop (sizes .process) w) (omega (arith, h)) (known-rest n w k .1)
 
 -- words that are a state are one at each of its processes, and at any other number
 pub state-at : (w : List ℕ) (i : ℕ) → isState w ≡ true → isStateAt w i ≡ true
@@ -108,13 +108,13 @@ unfolding isState
 state-at w i k = cases (ltb i 8) refl
   where
     head : knownHead w ≡ true
-    head = and-eq-true-iff (knownHead w) (allKnown 8 (drop 9 w)) .0 k .0
+    head = and-eq-true-iff (knownHead w) (allKnown 8 (drop (sizes .head) w)) .0 k .0
 
     cases : (b : Bool) → ltb i 8 ≡ b → isStateAt w i ≡ true
     cases true e =
-        let all = and-eq-true-iff (knownHead w) (allKnown 8 (drop 9 w)) .0 k .1 in
+        let all = and-eq-true-iff (knownHead w) (allKnown 8 (drop (sizes .head) w)) .0 k .1 in
         sym (by-one w i (knownHead w) refl head)
-        ∙ ap (λ r. knownProcess (take 18 r)) (sym (drop-drop (18 * i) 9 w)) ∙ known-at 8 i (drop 9 w) (ltb-true i 8 e) all
+        ∙ ap (λ r. knownProcess (take (sizes .process) r)) (sym (drop-drop (sizes .process * i) (sizes .head) w)) ∙ known-at 8 i (drop (sizes .head) w) (ltb-true i 8 e) all
     cases false e = sym (by-none w i (knownHead w) refl head (ltb-false i 8 e))
 
 -- there the words written are the whole state encoded

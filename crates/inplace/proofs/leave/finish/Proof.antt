@@ -5,7 +5,7 @@ use lib.ListN.{length}
 use native.Mathlib.Omega.{arith}
 use Rattle.model.specs.declared.types.Move.the-variants.{End}
 use Rattle.model.specs.Calls.{processAfter, outcomeOf}
-use Rattle.words.specs.Layout.{processWords}
+use Rattle.words.specs.Layout.{sizes, processWords}
 use Rattle.words.proofs.Known.{part-long}
 use Rattle.inplace.proofs.Left.{left-moved}
 use borrow.Author.Needs.{needs}
@@ -68,7 +68,7 @@ unfolding processAfter
 returns c =
     let s = c .before .before .before .before .before .before .before .before .before .before .before .before .before .before .before .before .before .before .before in
     let a = s .args in
-    let fits : a .at + 18 ≤ length (a .words .now) = omega (arith, s .pre .0, s .pre .1 .0) in
+    let fits : a .at + sizes .process ≤ length (a .words .now) = omega (arith, s .pre .0, s .pre .1 .0) in
     let p = c .before .before .before .before .before .before .before .put-process in
     left-moved (a .words .now) _ (a .at) (a .tick) (a .counts) fits _ (p .last .0) _ _ _ refl
     (p .ensures ∙ ap processWords (c .before .before .before .before .before .before .before .before .before .idle .ensures)) (p .kept .0 ∙ part-long (a .words .now) (a .at) fits)

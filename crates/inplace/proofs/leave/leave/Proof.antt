@@ -17,10 +17,10 @@ use Rattle.inplace.proofs.leave.leave.Tie as tie
 fits : (s : tie.Start) → s .args .at + sizes .process ≤ length (s .args .words .now)
 fits s = omega (arith, s .pre .0, s .pre .1 .0)
 
-own : (s : tie.Start) → knownProcess (take (s .args .at + 18 - s .args .at) (drop (s .args .at) (s .args .words .now))) ≡ true
+own : (s : tie.Start) → knownProcess (take (s .args .at + sizes .process - s .args .at) (drop (s .args .at) (s .args .words .now))) ≡ true
 own s = ap knownProcess (part-is (s .args .words .now) (s .args .at)) ∙ s .pre .1 .1 .0
 
-long : (s : tie.Start) → length (take (s .args .at + 18 - s .args .at) (drop (s .args .at) (s .args .words .now))) ≡ sizes .process
+long : (s : tie.Start) → length (take (s .args .at + sizes .process - s .args .at) (drop (s .args .at) (s .args .words .now))) ≡ sizes .process
 long s = part-long (s .args .words .now) (s .args .at) (fits s)
 
 add-to : tie.Need-add-to

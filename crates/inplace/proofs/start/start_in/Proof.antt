@@ -10,7 +10,7 @@ use borrow.Rule.Slice.PartMut.{same-len-mid}
 use Rattle.model.specs.declared.types.Call.{Call}
 use Rattle.model.specs.Calls.{startPermit}
 use Rattle.permits.proofs.Laws.{MayStart, may-start}
-use Rattle.words.specs.Layout.{processWords, stateFrom, isState, startOf}
+use Rattle.words.specs.Layout.{sizes, processWords, stateFrom, isState, startOf}
 use Rattle.words.proofs.Written.{state-at, header-at, events-at}
 use Rattle.inplace.proofs.Laws.{kind-at, start-unknown, start-denied, start-granted, state-long}
 use Rattle.inplace.proofs.start.start_in.Statement.{statement}
@@ -33,7 +33,7 @@ call c t = let a = c .args in record {
 known : (c : tie.Else1) → isState (c .before .before .before .before .before .before .args .words .now) ≡ true
 known c = sym (c .before .is-state .ensures) ∙ not-false _ (c .if1 .left)
 
-long : (c : tie.Else1) → length (c .before .before .before .before .before .before .args .words .now) ≡ 153
+long : (c : tie.Else1) → length (c .before .before .before .before .before .before .args .words .now) ≡ sizes .state
 long c = state-long (c .before .before .before .before .before .before .args .words .now) (known c)
 
 -- the permit is the definition's: the kind was read at the process's own place
@@ -138,7 +138,7 @@ put-event-requires c κs =
     let e = c .before .before .before .before .before .before .before .before .before in
     let at = startOf (c .before .before .before .before .before .before .before .before .before .before .before .before .before .before .before .before .slot .result) in
     let v = c .before .before .before .put-process in
-    same-len-mid at (at + 18 - at) (start (e .before .before) .args .words .now) (v .last .0) (v .kept .0) ∙ long (c .before .before .before .before .before .before .before .before .before .before .before .before .before .before .before .before .before)
+    same-len-mid at (at + sizes .process - at) (start (e .before .before) .args .words .now) (v .last .0) (v .kept .0) ∙ long (c .before .before .before .before .before .before .before .before .before .before .before .before .before .before .before .before .before)
 
 same-length-2 : tie.Need-same-length-2
 same-length-2 c = search needs

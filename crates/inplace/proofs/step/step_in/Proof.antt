@@ -14,7 +14,7 @@ use Rattle.phases.specs.Turn.{refuses}
 use Rattle.permits.specs.Header.{storeOf}
 use Rattle.permits.proofs.Laws.{MayStep, may-step}
 use Rattle.store.proofs.Laws.{level-fits, lent-may-step}
-use Rattle.words.specs.Layout.{processFrom, stateFrom, isStateAt, startOf}
+use Rattle.words.specs.Layout.{sizes, processFrom, stateFrom, isStateAt, startOf}
 use Rattle.words.proofs.Known.{head-long, part-is, part-long}
 use Rattle.words.proofs.Written.{part-facts, header-at, events-at}
 use Rattle.inplace.proofs.Laws.{kind-at, step-headless, step-unlawful, header-known, step-unknown, step-denied, step-left}
@@ -27,7 +27,7 @@ start c = c .before .before .before .before .before .before .before .before .bef
 known : (c : tie.Else4) → isStateAt (c .before .before .before .before .before .before .before .before .before .before .before .before .before .before .before .before .before .args .words .now) (c .before .before .before .before .before .before .before .before .before .before .before .before .before .before .before .before .before .args .process) ≡ true
 known c = sym (c .before .is-state-at .ensures) ∙ not-false _ (c .if4 .left)
 
-long : (c : tie.Else4) → length (c .before .before .before .before .before .before .before .before .before .before .before .before .before .before .before .before .before .args .words .now) ≡ 153
+long : (c : tie.Else4) → length (c .before .before .before .before .before .before .before .before .before .before .before .before .before .before .before .before .before .args .words .now) ≡ sizes .state
 long c = part-facts (c .before .before .before .before .before .before .before .before .before .before .before .before .before .before .before .before .before .args .words .now) (c .before .before .before .before .before .before .before .before .before .before .before .before .before .before .before .before .before .args .process) (known c) .0
 
 few : (c : tie.Else4) → c .before .before .before .before .before .before .before .before .before .before .before .before .before .before .before .before .before .args .process < 8

@@ -5,7 +5,7 @@ use borrow.Author.Needs.{needs}
 use Rattle.model.specs.Phases.{turnOf}
 use Rattle.tables.specs.Room.{memory}
 use Rattle.phases.specs.Turn.{leaves, refuses}
-use Rattle.words.specs.Layout.{processFrom}
+use Rattle.words.specs.Layout.{sizes, processFrom}
 use Rattle.words.proofs.Back.{process-from, process-short}
 use Rattle.store.specs.Advance.{advanceOf, advanceBy}
 use Rattle.store.proofs.Laws.{refused-advance, moved-advance, level-fits}
@@ -22,7 +22,7 @@ turned : (c : tie.After-turn) → let a = start c .args in
 turned c =
     let a = start c .args in
     let w = c .before .before .before .before .words-of in
-    let long : length (w .result) ≡ 18 = search needs in
+    let long : length (w .result) ≡ sizes .process = search needs in
     let six = process-short (a .p) (sym (ap length (w .ensures)) ∙ long) in
     c .turn .ensures
     ∙ ap (λ p. turnOf (a .holder) (a .tick) p (memory (a .nodes .now) (a .versions .now) (a .counts)))

@@ -5,13 +5,13 @@ use native.Mathlib.Omega.{arith}
 use lib.ListN.{drop}
 use borrow.Author.Needs.{needs}
 use borrow.Author.Tests.{not-true, not-false}
-use Rattle.words.specs.Layout.{allKnown}
+use Rattle.words.specs.Layout.{sizes, allKnown}
 use Rattle.words.proofs.Known.{unknown-first, known-first, none-left}
 use Rattle.words.proofs.state.all_known.Statement.{statement}
 use Rattle.words.proofs.state.all_known.Tie as tie
 
 abbrev Inv-loop : tie.InvT-loop
-Inv-loop words at₀ left₀ at left = (at + 18 * left ≡ 153) × (allKnown left (drop at words) ≡ allKnown 8 (drop 9 words))
+Inv-loop words at₀ left₀ at left = (at + sizes .process * left ≡ sizes .state) × (allKnown left (drop at words) ≡ allKnown 8 (drop (sizes .head) words))
 
 abbrev μ-loop : tie.MeasureT-loop
 μ-loop words at₀ left₀ at left = left

@@ -5,12 +5,12 @@ use native.Mathlib.Omega.{arith}
 use lib.ListN.{length}
 use borrow.Author.Needs.{needs}
 use borrow.Author.Tests.{not-true, not-false}
-use Rattle.words.specs.Layout.{knownProcess}
+use Rattle.words.specs.Layout.{sizes, knownProcess}
 use Rattle.words.proofs.Known.{part-is, head-long, no-head, by-one, by-none}
 use Rattle.words.proofs.state.is_state_at.Statement.{statement}
 use Rattle.words.proofs.state.is_state_at.Tie as tie
 
-long : (c : tie.Else2) → length (c .before .before .before .before .args .words .now) ≡ 153
+long : (c : tie.Else2) → length (c .before .before .before .before .args .words .now) ≡ sizes .state
 long c = head-long (c .before .before .before .before .args .words .now) (sym (c .before .before .is-head .ensures) ∙ not-false _ (c .before .if1 .left))
 
 is-head-requires : tie.Need-is-head-requires
@@ -49,7 +49,7 @@ is-process-requires c κs = let l = long (c .before) in search needs
 returns-3 : tie.Need-returns-3
 returns-3 c =
     let a = c .before .before .before .before .before .before .args in
-    c .is-process .ensures ∙ ap knownProcess (part-is (a .words .now) (9 + 18 * a .process))
+    c .is-process .ensures ∙ ap knownProcess (part-is (a .words .now) (sizes .head + sizes .process * a .process))
     ∙ by-one _ _ _ (c .before .before .before .before .is-head .ensures) (not-false _ (c .before .before .before .if1 .left))
 
 pub is-state-at-spec : {M : Type 1} → statement M

@@ -5,7 +5,7 @@ use native.Mathlib.Omega.{arith}
 use lib.ListN.{length, take, drop, length-set}
 use lib.Seq.{take-all}
 use borrow.Author.Needs.{needs}
-use Rattle.words.specs.Layout.{processFrom, allFrom}
+use Rattle.words.specs.Layout.{sizes, processFrom, allFrom}
 use Rattle.words.proofs.Known.{part-is}
 use Rattle.words.proofs.Whole.{read-next}
 use Rattle.words.proofs.state.processes_in.Statement.{statement}
@@ -13,7 +13,7 @@ use Rattle.words.proofs.state.processes_in.Tie as tie
 
 abbrev Inv-loop : tie.InvT-loop
 Inv-loop words process₀ at₀ i₀ process at i =
-    (i ≤ 8) × (at ≡ 9 + 18 * i) × (take i process ≡ allFrom i (drop 9 words)) × (length process ≡ 8)
+    (i ≤ 8) × (at ≡ sizes .head + sizes .process * i) × (take i process ≡ allFrom i (drop (sizes .head) words)) × (length process ≡ 8)
 
 abbrev μ-loop : tie.MeasureT-loop
 μ-loop words process₀ at₀ i₀ process at i = 8 - i
@@ -62,7 +62,7 @@ loop-again : tie.Need-loop-again Inv-loop μ-loop
 loop-again c =
     let l = c .before .before .before .loop in
     let w = c .before .before .before .before .before .before .args .words .now in
-    let own = c .process-in .ensures ∙ ap processFrom (part-is w (l .at)) ∙ ap (λ k. processFrom (take 18 (drop k w))) (l .inv .1) in (
+    let own = c .process-in .ensures ∙ ap processFrom (part-is w (l .at)) ∙ ap (λ k. processFrom (take (sizes .process) (drop k w))) (l .inv .1) in (
       omega arith,
       omega arith,
       read-next (l .process) (l .i) w (c .process-in .result) (omega (arith, l .inv .3)) (l .inv .2) own,
@@ -74,7 +74,7 @@ returns c =
     let l = c .before .loop in
     let w = c .before .before .before .before .args .words .now in
     let e : l .i ≡ 8 = omega arith in
-    sym (take-all (l .i) (l .process) (omega (arith, l .inv .3))) ∙ l .inv .2 ∙ ap (λ n. allFrom n (drop 9 w)) e
+    sym (take-all (l .i) (l .process) (omega (arith, l .inv .3))) ∙ l .inv .2 ∙ ap (λ n. allFrom n (drop (sizes .head) w)) e
 
 pub processes-in-spec : {M : Type 1} → statement M
 processes-in-spec =

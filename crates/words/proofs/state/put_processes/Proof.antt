@@ -5,7 +5,7 @@ use mathlib.Core.Path.{_≡_, refl, sym, _∙_}
 use native.Mathlib.Omega.{arith}
 use lib.ListN.{length, take}
 use borrow.Author.Needs.{needs}
-use Rattle.words.specs.Layout.{allWords}
+use Rattle.words.specs.Layout.{sizes, allWords}
 use Rattle.words.proofs.Known.{part-long}
 use Rattle.words.proofs.Whole.{write-next, write-all}
 use Rattle.words.proofs.state.put_processes.Statement.{statement}
@@ -13,14 +13,14 @@ use Rattle.words.proofs.state.put_processes.Tie as tie
 
 abbrev Inv-loop : tie.InvT-loop
 Inv-loop words₀ process at₀ i₀ words at i =
-    (i ≤ 8) × (at ≡ 9 + 18 * i) × (length words ≡ 153) × (take (9 + 18 * i) words ≡ take 9 words₀ ++ allWords (take i process))
+    (i ≤ 8) × (at ≡ sizes .head + sizes .process * i) × (length words ≡ sizes .state) × (take (sizes .head + sizes .process * i) words ≡ take (sizes .head) words₀ ++ allWords (take i process))
 
 abbrev μ-loop : tie.MeasureT-loop
 μ-loop words₀ process at₀ i₀ words at i = 8 - i
 
 loop-holds : tie.Need-loop-holds Inv-loop μ-loop
 unfolding allWords
-loop-holds c = (omega arith, refl, c .before .pre, sym (append-nil (take 9 (c .before .args .words .now))))
+loop-holds c = (omega arith, refl, c .before .pre, sym (append-nil (take (sizes .head) (c .before .args .words .now))))
 
 add-end : tie.Need-add-end Inv-loop μ-loop
 add-end c = search needs
@@ -61,7 +61,7 @@ loop-again c =
     let a = c .before .before .before .before .before .before .before .before .args in
     let eight : length (a .t2) ≡ 8 = search needs in
     let long = c .before .before .put-process .kept .0 ∙ part-long (l .words) (l .at) (omega arith) in
-    let f = write-next (take 9 (a .words .now)) (a .t2) eight (l .words) _ (l .at) (l .i) _
+    let f = write-next (take (sizes .head) (a .words .now)) (a .t2) eight (l .words) _ (l .at) (l .i) _
     (c .before .before .before .before .before .loop-test .taken) (l .inv .1) (l .inv .2) long
     (c .before .before .put-process .ensures) (l .inv .3) in
     (omega arith, omega arith, f .0, f .1)
@@ -74,7 +74,7 @@ returns c =
     let l = c .before .loop in
     let a = c .before .before .before .args in
     let eight : length (a .t2) ≡ 8 = search needs in
-    write-all (take 9 (a .words .now)) (a .t2) eight (l .words) (l .i) (omega arith) (l .inv .0) (l .inv .2) (l .inv .3)
+    write-all (take (sizes .head) (a .words .now)) (a .t2) eight (l .words) (l .i) (omega arith) (l .inv .0) (l .inv .2) (l .inv .3)
 
 pub put-processes-spec : {M : Type 1} → statement M
 put-processes-spec =

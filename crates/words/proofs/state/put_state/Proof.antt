@@ -2,7 +2,7 @@
 use mathlib.Core.List.{_++_}
 use mathlib.Core.Path.{ap, _∙_}
 use lib.ListN.{take}
-use Rattle.words.specs.Layout.{allWords, stateWords}
+use Rattle.words.specs.Layout.{sizes, allWords, stateWords}
 use Rattle.words.proofs.Whole.{head-front}
 use borrow.Author.Needs.{needs}
 use Rattle.words.proofs.state.put_state.Statement.{statement}
@@ -23,7 +23,7 @@ returns c =
     let a = c .before .before .before .before .before .before .before .before .before .before in
     let ps = a .args .s .process in
     c .before .before .put-processes .ensures
-    ∙ ap (λ w. take 9 w ++ allWords ps) (c .before .before .before .before .before .before .put-head .ensures)
+    ∙ ap (λ w. take (sizes .head) w ++ allWords ps) (c .before .before .before .before .before .before .put-head .ensures)
     ∙ ap (λ h. h ++ allWords ps) (head-front (a .args .s) (a .args .words .now) (a .pre))
 
 pub put-state-spec : {M : Type 1} → statement M
