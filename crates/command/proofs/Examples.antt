@@ -45,6 +45,9 @@ command-read : all 20 (
     ∷ 0x53 ∷ 0x01
     ∷ 0x4C ∷ 0x01 ∷ 0x02 ∷ 0x03 ∷ 0x04 ∷ 0x05 ∷ 0x06
     ∷ 0x49
+    ∷ 0x70 ∷ 0x01 ∷ 0x02 ∷ 0x03 ∷ 0x04 ∷ 0x05 ∷ 0x06 ∷ 0x07 ∷ 0x08 ∷ 0x09 ∷ 0x0A ∷ 0x0B ∷ 0x0C ∷ 0x0D ∷ 0x0E ∷ 0x0F ∷ 0x10 ∷ 0x11 ∷ 0x12 ∷ 0x13
+    ∷ 0x67 ∷ 0x01 ∷ 0x02 ∷ 0x03 ∷ 0x04 ∷ 0x05 ∷ 0x06 ∷ 0x07 ∷ 0x08 ∷ 0x09
+    ∷ 0x6C ∷ 0x01 ∷ 0x02 ∷ 0x03 ∷ 0x04 ∷ 0x05 ∷ 0x06 ∷ 0x07 ∷ 0x08 ∷ 0x09 ∷ 0x0A
     ∷ 0x2A ∷ []
     ) ≡ Whole (Open 0x0102 0x0304 0x05 0x06070809) 10
     ∷ Whole (Put 0x01 0x02030405 0x06070809 0x0A0B0C0D 0x0E0F) 16
@@ -52,6 +55,9 @@ command-read : all 20 (
     ∷ Whole (Step 0x01) 2
     ∷ Whole (Look 0x01020304 0x0506) 7
     ∷ Whole Inspect 1
+    ∷ Whole (Put 0x01 0x0203040506070809 0x0A0B0C0D 0x0E0F1011 0x1213) 20
+    ∷ Whole (Get 0x01 0x0203040506070809) 10
+    ∷ Whole (Look 0x0102030405060708 0x090A) 11
     ∷ Unknown ∷ []
 unfolding all found commandFrom codeFrom formFrom bigEndianFrom
 command-read = refl
@@ -88,9 +94,9 @@ sheet-printed = refl
 
 -- the other lines, with numbers that differ and the greatest
 others-printed : printed (
-    Waited 1 23 ∷ Looked 4_294_967_294 65_535 4_294_967_295 10 ∷ Sound ∷ Fault 5 1_023
+    Waited 1 23 ∷ Looked 18_446_744_073_709_551_614 65_535 4_294_967_295 10 ∷ Sound ∷ Fault 5 1_023
     ∷ Refused NodeLength ∷ Refused UnknownCommand ∷ Refused CutShort ∷ []
-    ) ≡ ascii "step 1 23 wait\nlook 4294967294 65535 4294967295 10\nsound\nfault 5 1023\nrefused 1\nrefused 15\nrefused 16\n"
+    ) ≡ ascii "step 1 23 wait\nlook 18446744073709551614 65535 4294967295 10\nsound\nfault 5 1023\nrefused 1\nrefused 15\nrefused 16\n"
 unfolding printed numberOf decimal digits
 others-printed = refl
 

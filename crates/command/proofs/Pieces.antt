@@ -9,22 +9,22 @@ use lib.ListN.{length, drop, length-append, length-drop}
 use lib.Seq.{take-append-le, drop-append-le}
 use borrow.Author.Tests.{le-ltb, ltb-true, ltb-false}
 use Rattle.command.specs.Types.{Command, Decoded, Whole, Unknown, Short, End}
-use Rattle.command.specs.Commands.{Form, forms, total, operand, commandWith, formFrom, codeFrom, commandFrom}
+use Rattle.command.specs.Commands.{Form, Opcode, opcodes, total, operand, commandWith, formFrom, codeFrom, commandFrom}
 
 -- the most bytes that operands take
-abbrev pub widest : List Form → ℕ
+abbrev pub widest : List Opcode → ℕ
 widest [] = 0
-widest (f ∷ fs) = max (total (f .widths)) (widest fs)
+widest (o ∷ os) = max (total (o .form .widths)) (widest os)
 
 -- What holds of an unknown byte and of each form holds of every byte; of two lists of bytes behind it, too.
-code-cases : (P : Decoded → Decoded → Type 0) (fs : List Form) (code : ℕ) (xs zs : List ℕ) → P Unknown Unknown
-    → ((f : Form) → total (f .widths) ≤ widest fs → P (formFrom f xs) (formFrom f zs)) → P (codeFrom fs code xs) (codeFrom fs code zs)
+code-cases : (P : Decoded → Decoded → Type 0) (os : List Opcode) (code : ℕ) (xs zs : List ℕ) → P Unknown Unknown
+    → ((f : Form) → total (f .widths) ≤ widest os → P (formFrom f xs) (formFrom f zs)) → P (codeFrom os code xs) (codeFrom os code zs)
 unfolding codeFrom
 code-cases P [] code xs zs u h = u
-code-cases P (f ∷ fs) code xs zs u h = by (eqb code (f .code)) refl (code-cases P fs code xs zs u λ g l. h g (omega arith))
+code-cases P (o ∷ os) code xs zs u h = by (eqb code (o .code)) refl (code-cases P os code xs zs u λ g l. h g (omega arith))
   where
-    by : (t : Bool) → eqb code (f .code) ≡ t → P (codeFrom fs code xs) (codeFrom fs code zs) → P (codeFrom (f ∷ fs) code xs) (codeFrom (f ∷ fs) code zs)
-    by true e rest = simp e (h f (omega arith))
+    by : (t : Bool) → eqb code (o .code) ≡ t → P (codeFrom os code xs) (codeFrom os code zs) → P (codeFrom (o ∷ os) code xs) (codeFrom (o ∷ os) code zs)
+    by true e rest = simp e (h (o .form) (omega arith))
     by false e rest = simp e rest
 
 -- ---- more bytes
@@ -59,7 +59,7 @@ pub stays : (xs ys : List ℕ) → settled (commandFrom xs) ≡ true → command
 unfolding commandFrom
 stays [] ys h = let z : _≡_ {A = Bool} false true = h in cc
 stays (code ∷ xs) ys h =
-    code-cases (λ d e. settled d ≡ true → e ≡ d) forms code xs (xs ++ ys) (λ s. refl) (λ f l. form-stays f xs ys) h
+    code-cases (λ d e. settled d ≡ true → e ≡ d) opcodes code xs (xs ++ ys) (λ s. refl) (λ f l. form-stays f xs ys) h
 
 -- ---- lengths
 
@@ -80,7 +80,7 @@ pub whole-within : (xs : List ℕ) (c : Command) (n : ℕ) → commandFrom xs �
 unfolding commandFrom
 whole-within [] c n h = let q : _≡_ {A = ℕ} 0 1 = cc in omega arith
 whole-within (code ∷ xs) c n h =
-    code-cases (λ d e. d ≡ Whole c n → (1 ≤ n) × (n ≤ suc (length xs))) forms code xs xs
+    code-cases (λ d e. d ≡ Whole c n → (1 ≤ n) × (n ≤ suc (length xs))) opcodes code xs xs
     (λ e. let q : _≡_ {A = ℕ} 0 1 = cc in omega arith)
     (λ f l. form-within f xs c n)
     h
@@ -93,12 +93,12 @@ form-short f xs = by (ltb (length xs) (total (f .widths))) refl
     by true e h = ltb-true (length xs) (total (f .widths)) e
     by false e h = let w : Whole (commandWith f xs) (1 + total (f .widths)) ≡ Short = simp e at h in let q : _≡_ {A = ℕ} 0 1 = cc in omega arith
 
--- the longest command has 16 bytes: whoever holds as many is never told that they are too few
-pub short-below : (xs : List ℕ) → commandFrom xs ≡ Short → length xs < 16
+-- the longest command has 20 bytes: whoever holds as many is never told that they are too few
+pub short-below : (xs : List ℕ) → commandFrom xs ≡ Short → length xs < 20
 unfolding commandFrom
 short-below [] h = let q : _≡_ {A = ℕ} 0 1 = cc in omega arith
 short-below (code ∷ xs) h =
-    code-cases (λ d e. d ≡ Short → suc (length xs) < 16) forms code xs xs
+    code-cases (λ d e. d ≡ Short → suc (length xs) < 20) opcodes code xs xs
     (λ e. let q : _≡_ {A = ℕ} 0 1 = cc in omega arith)
     (λ f l e. let few = form-short f xs e in omega arith)
     h

@@ -62,6 +62,9 @@ digits-few (suc k) n h =
 pub decimal-few : (n : ℕ) → n < 2 ^ 32 → length (decimal n) ≤ 10
 decimal-few n h = digits-few 9 n (omega arith)
 
+pub decimal-wide : (n : ℕ) → n < 2 ^ 64 → length (decimal n) ≤ 20
+decimal-wide n h = digits-few 19 n (omega arith)
+
 pub short-length : (n : ℕ) → n < 10 → length (decimal n) ≡ 1
 short-length n h = ap length (decimal-short n h)
 

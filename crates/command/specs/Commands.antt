@@ -1,5 +1,5 @@
 -- Document 01, "Sheet program": what the bytes of a command mean.
-use Prim.Native.Nat.{ℕ, zero, suc, _+_, _*_}
+use Prim.Native.Nat.{ℕ, zero, suc, _+_, _*_, _≤_}
 use mathlib.Core.List.{List, [], _∷_}
 use lib.Dec.{eqb, ltb}
 use lib.ListN.{length, take, drop}
@@ -14,32 +14,52 @@ bigEndianFrom n (b ∷ bytes) = bigEndianFrom (256 * n + b) bytes
 abbrev pub bigEndian : List ℕ → ℕ
 bigEndian bytes = bigEndianFrom 0 bytes
 
--- a command byte, the widths of its operands in bytes, and the command with operands 0, 1 and so on
+-- the operands behind a command byte: their widths in bytes, and the command with operands 0, 1 and so on
 pub record Form : Type 0 where
-  pub code : ℕ
   pub widths : List ℕ
   pub command : (operand : ℕ → ℕ) → Command
 
 abbrev pub openForm : Form
-openForm = record { code = 0x4F; widths = 2 ∷ 2 ∷ 1 ∷ 4 ∷ []; command = λ n. Open (n 0) (n 1) (n 2) (n 3) }
+openForm = record { widths = 2 ∷ 2 ∷ 1 ∷ 4 ∷ []; command = λ n. Open (n 0) (n 1) (n 2) (n 3) }
 
-abbrev pub putForm : Form
-putForm = record { code = 0x50; widths = 1 ∷ 4 ∷ 4 ∷ 4 ∷ 2 ∷ []; command = λ n. Put (n 0) (n 1) (n 2) (n 3) (n 4) }
+-- how many bytes a tray can have: those of its low half, and up to four of a high one
+abbrev pub Wide : ℕ → Type 0
+Wide wide = (4 ≤ wide) × (wide ≤ 8)
 
-abbrev pub getForm : Form
-getForm = record { code = 0x47; widths = 1 ∷ 4 ∷ []; command = λ n. Get (n 0) (n 1) }
+abbrev pub putForm : (wide : ℕ) → Form
+putForm wide = record { widths = 1 ∷ wide ∷ 4 ∷ 4 ∷ 2 ∷ []; command = λ n. Put (n 0) (n 1) (n 2) (n 3) (n 4) }
+
+abbrev pub getForm : (wide : ℕ) → Form
+getForm wide = record { widths = 1 ∷ wide ∷ []; command = λ n. Get (n 0) (n 1) }
 
 abbrev pub stepForm : Form
-stepForm = record { code = 0x53; widths = 1 ∷ []; command = λ n. Step (n 0) }
+stepForm = record { widths = 1 ∷ []; command = λ n. Step (n 0) }
 
-abbrev pub lookForm : Form
-lookForm = record { code = 0x4C; widths = 4 ∷ 2 ∷ []; command = λ n. Look (n 0) (n 1) }
+abbrev pub lookForm : (wide : ℕ) → Form
+lookForm wide = record { widths = wide ∷ 2 ∷ []; command = λ n. Look (n 0) (n 1) }
 
 abbrev pub inspectForm : Form
-inspectForm = record { code = 0x49; widths = []; command = λ n. Inspect }
+inspectForm = record { widths = []; command = λ n. Inspect }
 
-abbrev pub forms : List Form
-forms = openForm ∷ putForm ∷ getForm ∷ stepForm ∷ lookForm ∷ inspectForm ∷ []
+-- a command byte and what stands behind it
+pub record Opcode : Type 0 where
+  pub code : ℕ
+  pub form : Form
+
+-- "0x4F open", "0x50 put", "0x47 get", "0x53 step", "0x4C look", "0x49 inspect", and P3: "The sheet gains 0x70, 0x67 and 0x6C,
+-- which are put, get and look with eight-byte trays; the four-byte commands mean a high half of 0"
+abbrev pub opcodes : List Opcode
+opcodes =
+    record { code = 0x4F; form = openForm }
+    ∷ record { code = 0x50; form = putForm 4 }
+    ∷ record { code = 0x47; form = getForm 4 }
+    ∷ record { code = 0x53; form = stepForm }
+    ∷ record { code = 0x4C; form = lookForm 4 }
+    ∷ record { code = 0x49; form = inspectForm }
+    ∷ record { code = 0x70; form = putForm 8 }
+    ∷ record { code = 0x67; form = getForm 8 }
+    ∷ record { code = 0x6C; form = lookForm 8 }
+    ∷ []
 
 -- the bytes of all operands
 abbrev pub total : (widths : List ℕ) → ℕ
@@ -61,11 +81,11 @@ unfoldable pub formFrom : Form → List ℕ → Decoded
 formFrom f bytes = if ltb (length bytes) (total (f .widths)) then Short else Whole (commandWith f bytes) (1 + total (f .widths))
 
 -- "15 unknown byte"
-unfoldable pub codeFrom : List Form → (code : ℕ) → List ℕ → Decoded
+unfoldable pub codeFrom : List Opcode → (code : ℕ) → List ℕ → Decoded
 codeFrom [] code bytes = Unknown
-codeFrom (f ∷ rest) code bytes = if eqb code (f .code) then formFrom f bytes else codeFrom rest code bytes
+codeFrom (o ∷ rest) code bytes = if eqb code (o .code) then formFrom (o .form) bytes else codeFrom rest code bytes
 
 -- what stands at the start of bytes
 unfoldable pub commandFrom : List ℕ → Decoded
 commandFrom [] = End
-commandFrom (code ∷ bytes) = codeFrom forms code bytes
+commandFrom (code ∷ bytes) = codeFrom opcodes code bytes

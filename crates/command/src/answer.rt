@@ -42,7 +42,7 @@ pub fn of_step(process: u32, outcome: Stepping) -> Line
     }
 }
 
-pub fn of_look(key: u32, back: u32, outcome: Looking) -> Line
+pub fn of_look(key: u64, back: u32, outcome: Looking) -> Line
     ensures { λ r. ⌜ r ≡ lookLine key back outcome ⌝ }
 {
     match outcome {

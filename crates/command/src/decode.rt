@@ -2,9 +2,10 @@
 ghost use mathlib.Core.Path.{_≡_};
 ghost use Prim.Native.Nat.{_+_, _^_, _≤_, _<_};
 ghost use lib.ListN.{length, take, drop};
-ghost use Rattle.command.specs.Commands.{bigEndian, openForm, putForm, getForm, stepForm, lookForm, total, commandWith, commandFrom};
+ghost use Rattle.command.specs.Commands.{bigEndian, openForm, putForm, getForm, stepForm, lookForm, Wide, total, commandWith, formFrom, commandFrom};
 use crate::types::Command;
 use crate::types::Decoded;
+use model::halves::joined;
 
 // The number that bytes make, the most significant first.
 fn big_endian(bytes: &[u8]) -> u32
@@ -32,6 +33,18 @@ fn number(bytes: &[u8], at: usize, width: usize) -> u32
     big_endian(&bytes[at..end])
 }
 
+// A key of `wide` bytes: the last four are its low half, those before them the high one; of four bytes it is 0.
+fn wide_number(bytes: &[u8], at: usize, wide: usize) -> u64
+    requires { ⌜ at + wide ≤ length (now bytes) ⌝ }
+    requires { ⌜ Wide wide ⌝ }
+    ensures { λ r. ⌜ r ≡ bigEndian (take wide (drop at (now (bytes .entry)))) ⌝ }
+{
+    let more = wide - 4;
+    let high = number(bytes, at, more);
+    let low = number(bytes, at + more, 4);
+    joined(low, high)
+}
+
 fn open_at(bytes: &[u8], at: usize) -> Command
     requires { ⌜ at + total (openForm .widths) ≤ length (now bytes) ⌝ }
     ensures { λ r. ⌜ r ≡ commandWith openForm (drop at (now (bytes .entry))) ⌝ }
@@ -48,15 +61,19 @@ fn open_at(bytes: &[u8], at: usize) -> Command
     }
 }
 
-fn put_at(bytes: &[u8], at: usize) -> Command
-    requires { ⌜ at + total (putForm .widths) ≤ length (now bytes) ⌝ }
-    ensures { λ r. ⌜ r ≡ commandWith putForm (drop at (now (bytes .entry))) ⌝ }
+// `wide`: how many bytes the key has.
+fn put_at(bytes: &[u8], at: usize, wide: usize) -> Command
+    requires { ⌜ at + total (putForm wide .widths) ≤ length (now bytes) ⌝ }
+    requires { ⌜ Wide wide ⌝ }
+    ensures { λ r. ⌜ r ≡ commandWith (putForm wide) (drop at (now (bytes .entry))) ⌝ }
 {
+    let from = at + 1;
+    let next = from + wide;
     let process = number(bytes, at, 1);
-    let key = number(bytes, at + 1, 4);
-    let value = number(bytes, at + 5, 4);
-    let timestamp = number(bytes, at + 9, 4);
-    let draw = number(bytes, at + 13, 2) as u16;
+    let key = wide_number(bytes, from, wide);
+    let value = number(bytes, next, 4);
+    let timestamp = number(bytes, next + 4, 4);
+    let draw = number(bytes, next + 8, 2) as u16;
     Command::Put {
         process,
         key,
@@ -66,12 +83,13 @@ fn put_at(bytes: &[u8], at: usize) -> Command
     }
 }
 
-fn get_at(bytes: &[u8], at: usize) -> Command
-    requires { ⌜ at + total (getForm .widths) ≤ length (now bytes) ⌝ }
-    ensures { λ r. ⌜ r ≡ commandWith getForm (drop at (now (bytes .entry))) ⌝ }
+fn get_at(bytes: &[u8], at: usize, wide: usize) -> Command
+    requires { ⌜ at + total (getForm wide .widths) ≤ length (now bytes) ⌝ }
+    requires { ⌜ Wide wide ⌝ }
+    ensures { λ r. ⌜ r ≡ commandWith (getForm wide) (drop at (now (bytes .entry))) ⌝ }
 {
     let process = number(bytes, at, 1);
-    let key = number(bytes, at + 1, 4);
+    let key = wide_number(bytes, at + 1, wide);
     Command::Get { process, key }
 }
 
@@ -83,16 +101,71 @@ fn step_at(bytes: &[u8], at: usize) -> Command
     Command::Step { process }
 }
 
-fn look_at(bytes: &[u8], at: usize) -> Command
-    requires { ⌜ at + total (lookForm .widths) ≤ length (now bytes) ⌝ }
-    ensures { λ r. ⌜ r ≡ commandWith lookForm (drop at (now (bytes .entry))) ⌝ }
+fn look_at(bytes: &[u8], at: usize, wide: usize) -> Command
+    requires { ⌜ at + total (lookForm wide .widths) ≤ length (now bytes) ⌝ }
+    requires { ⌜ Wide wide ⌝ }
+    ensures { λ r. ⌜ r ≡ commandWith (lookForm wide) (drop at (now (bytes .entry))) ⌝ }
 {
-    let key = number(bytes, at, 4);
-    let back = number(bytes, at + 4, 2);
+    let key = wide_number(bytes, at, wide);
+    let back = number(bytes, at + wide, 2);
     Command::Look { key, back }
 }
 
-// The command at `at`: its byte chooses the width of the operands and the command.
+// Each command from the byte behind its code on, where all its operands are there.
+fn open_from(bytes: &[u8], at: usize) -> Decoded
+    requires { ⌜ at ≤ length (now bytes) ⌝ }
+    ensures { λ r. ⌜ r ≡ formFrom openForm (drop at (now (bytes .entry))) ⌝ }
+{
+    if bytes.len() - at < 9 {
+        return Decoded::Short;
+    }
+    Decoded::Whole(open_at(bytes, at), 10)
+}
+
+fn put_from(bytes: &[u8], at: usize, wide: usize) -> Decoded
+    requires { ⌜ at ≤ length (now bytes) ⌝ }
+    requires { ⌜ Wide wide ⌝ }
+    ensures { λ r. ⌜ r ≡ formFrom (putForm wide) (drop at (now (bytes .entry))) ⌝ }
+{
+    if bytes.len() - at < 11 + wide {
+        return Decoded::Short;
+    }
+    Decoded::Whole(put_at(bytes, at, wide), 12 + wide)
+}
+
+fn get_from(bytes: &[u8], at: usize, wide: usize) -> Decoded
+    requires { ⌜ at ≤ length (now bytes) ⌝ }
+    requires { ⌜ Wide wide ⌝ }
+    ensures { λ r. ⌜ r ≡ formFrom (getForm wide) (drop at (now (bytes .entry))) ⌝ }
+{
+    if bytes.len() - at < 1 + wide {
+        return Decoded::Short;
+    }
+    Decoded::Whole(get_at(bytes, at, wide), 2 + wide)
+}
+
+fn step_from(bytes: &[u8], at: usize) -> Decoded
+    requires { ⌜ at ≤ length (now bytes) ⌝ }
+    ensures { λ r. ⌜ r ≡ formFrom stepForm (drop at (now (bytes .entry))) ⌝ }
+{
+    if bytes.len() - at < 1 {
+        return Decoded::Short;
+    }
+    Decoded::Whole(step_at(bytes, at), 2)
+}
+
+fn look_from(bytes: &[u8], at: usize, wide: usize) -> Decoded
+    requires { ⌜ at ≤ length (now bytes) ⌝ }
+    requires { ⌜ Wide wide ⌝ }
+    ensures { λ r. ⌜ r ≡ formFrom (lookForm wide) (drop at (now (bytes .entry))) ⌝ }
+{
+    if bytes.len() - at < 2 + wide {
+        return Decoded::Short;
+    }
+    Decoded::Whole(look_at(bytes, at, wide), 3 + wide)
+}
+
+// The command at `at`: its byte chooses the command and the width of a key.
 pub fn decode(bytes: &[u8], at: usize) -> Decoded
     ensures { λ r. ⌜ r ≡ commandFrom (drop at (now (bytes .entry))) ⌝ }
 {
@@ -101,44 +174,16 @@ pub fn decode(bytes: &[u8], at: usize) -> Decoded
     }
     let code = bytes[at];
     let from = at + 1;
-    let left = bytes.len() - from;
     match code {
-        0x4F => {
-            if left < 9 {
-                Decoded::Short
-            } else {
-                Decoded::Whole(open_at(bytes, from), 10)
-            }
-        }
-        0x50 => {
-            if left < 15 {
-                Decoded::Short
-            } else {
-                Decoded::Whole(put_at(bytes, from), 16)
-            }
-        }
-        0x47 => {
-            if left < 5 {
-                Decoded::Short
-            } else {
-                Decoded::Whole(get_at(bytes, from), 6)
-            }
-        }
-        0x53 => {
-            if left < 1 {
-                Decoded::Short
-            } else {
-                Decoded::Whole(step_at(bytes, from), 2)
-            }
-        }
-        0x4C => {
-            if left < 6 {
-                Decoded::Short
-            } else {
-                Decoded::Whole(look_at(bytes, from), 7)
-            }
-        }
+        0x4F => open_from(bytes, from),
+        0x50 => put_from(bytes, from, 4),
+        0x47 => get_from(bytes, from, 4),
+        0x53 => step_from(bytes, from),
+        0x4C => look_from(bytes, from, 4),
         0x49 => Decoded::Whole(Command::Inspect, 1),
+        0x70 => put_from(bytes, from, 8),
+        0x67 => get_from(bytes, from, 8),
+        0x6C => look_from(bytes, from, 8),
         _ => Decoded::Unknown,
     }
 }

@@ -8,6 +8,7 @@ ghost use Rattle.command.specs.Lines.{kindWord, answerWord, lineOf, room
 use crate::text::put_ending;
 use crate::text::put_number;
 use crate::text::put_text;
+use crate::text::put_wide;
 use crate::types::Line;
 use model::numbers::number_of;
 use model::types::Answer;
@@ -52,21 +53,21 @@ fn put_two(out: &mut [u8], at: usize, word: &[u8], first: u32, second: u32, end:
     put_ending(out, next, first, second, end)
 }
 
-// A word and four numbers.
+// A word and four numbers, the first of 64 bits.
 fn put_four(
     out: &mut [u8],
     at: usize,
     word: &[u8],
-    first: u32,
+    first: u64,
     second: u32,
     third: u32,
     fourth: u32,
 ) -> usize
-    requires { ⌜ at + length (now word) + 45 ≤ length (now out) ⌝ }
+    requires { ⌜ at + length (now word) + 55 ≤ length (now out) ⌝ }
     ensures { λ r. ⌜ Wrote (now (out .entry)) (now (out .exit)) at r (now (word .entry) ++ (spaced (decimal first) ++ (spaced (decimal second) ++ (spaced (decimal third) ++ (spaced (decimal fourth) ++ ascii "\n"))))) ⌝ }
 {
     let start = put_text(out, at, word);
-    let next = put_number(out, start, first);
+    let next = put_wide(out, start, first);
     let last = put_number(out, next, second);
     put_ending(out, last, third, fourth, b"\n")
 }
@@ -114,7 +115,7 @@ fn put_line(out: &mut [u8], at: usize, line: Line) -> usize
             versions,
             processes,
             limit,
-        } => put_four(out, at, b"open", keys, versions, processes, limit),
+        } => put_four(out, at, b"open", keys as u64, versions, processes, limit),
         Line::Started { process, tick } => put_two(out, at, b"start", process, tick, b"\n"),
         Line::Stepped { process, tick } => put_two(out, at, b"step", process, tick, b" on\n"),
         Line::Waited { process, tick } => put_two(out, at, b"step", process, tick, b" wait\n"),

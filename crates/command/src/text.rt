@@ -16,7 +16,7 @@ pub fn put_text(out: &mut [u8], at: usize, text: &[u8]) -> usize
     at + i
 }
 
-fn put_digit(out: &mut [u8], at: usize, n: u32) -> usize
+fn put_digit(out: &mut [u8], at: usize, n: u64) -> usize
     requires { ⌜ at < length (now out) ⌝ }
     requires { ⌜ n < 10 ⌝ }
     ensures { λ r. ⌜ Wrote (now (out .entry)) (now (out .exit)) at r (digit n ∷ []) ⌝ }
@@ -26,7 +26,7 @@ fn put_digit(out: &mut [u8], at: usize, n: u32) -> usize
 }
 
 // The digits of n: those of a tenth of it, then the last.
-fn put_decimal(out: &mut [u8], at: usize, n: u32) -> usize
+fn put_decimal(out: &mut [u8], at: usize, n: u64) -> usize
     requires { ⌜ at + length (decimal n) ≤ length (now out) ⌝ }
     ensures { λ r. ⌜ Wrote (now (out .entry)) (now (out .exit)) at r (decimal n) ⌝ }
 {
@@ -42,6 +42,16 @@ pub fn put_number(out: &mut [u8], at: usize, n: u32) -> usize
     requires { ⌜ at + 11 ≤ length (now out) ⌝ }
     ensures { λ r. ⌜ Wrote (now (out .entry)) (now (out .exit)) at r (spaced (decimal n)) ⌝ }
     ensures { λ r. ⌜ r ≤ at + 11 ⌝ }
+{
+    out[at] = 32;
+    put_decimal(out, at + 1, n as u64)
+}
+
+// The same of 64 bits.
+pub fn put_wide(out: &mut [u8], at: usize, n: u64) -> usize
+    requires { ⌜ at + 21 ≤ length (now out) ⌝ }
+    ensures { λ r. ⌜ Wrote (now (out .entry)) (now (out .exit)) at r (spaced (decimal n)) ⌝ }
+    ensures { λ r. ⌜ r ≤ at + 21 ⌝ }
 {
     out[at] = 32;
     put_decimal(out, at + 1, n)

@@ -12,20 +12,20 @@ pub enum Command {
     },
     Put {
         process: u32,
-        key: u32,
+        key: u64,
         value: u32,
         timestamp: u32,
         draw: u16,
     },
     Get {
         process: u32,
-        key: u32,
+        key: u64,
     },
     Step {
         process: u32,
     },
     Look {
-        key: u32,
+        key: u64,
         back: u32,
     },
     Inspect,
@@ -68,7 +68,7 @@ pub enum Line {
         finish: Finish,
     },
     Looked {
-        key: u32,
+        key: u64,
         back: u32,
         value: u32,
         timestamp: u32,

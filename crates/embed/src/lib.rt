@@ -87,7 +87,7 @@ pub extern "C" fn tray_start_put(
     nodes: &[u32],
     readings: &[u32],
     station: u32,
-    tray: u32,
+    tray: u64,
     value: u32,
     stamp: u32,
     draw: u16,
@@ -105,7 +105,7 @@ pub extern "C" fn tray_start_get(
     nodes: &[u32],
     readings: &[u32],
     station: u32,
-    tray: u32,
+    tray: u64,
     tick: &mut u32,
 ) -> u32
     ensures { λ r. ⌜ record { told = record { number = r; answer = now (tick .exit) ∷ [] }; words = now (state .exit) } ≡ trayStartGet (now (state .entry)) (now (nodes .entry)) (now (readings .entry)) station tray ⌝ }
@@ -134,7 +134,7 @@ pub extern "C" fn tray_look(
     state: &[u32],
     nodes: &[u32],
     readings: &[u32],
-    tray: u32,
+    tray: u64,
     back: u32,
     answer: &mut [u32; 2],
 ) -> u32

@@ -58,7 +58,7 @@ abbrev pub bound : ℕ
 bound = 5
 
 unfoldable pub by-store : Case → Seen
-unfolding Layout.capacity Layout.word Layout.withWord Layout.withNode Layout.freshNodes Layout.field Layout.withVersion placeOf
+unfolding Layout.capacity Layout.joined Layout.word Layout.withWord Layout.withNode Layout.freshNodes Layout.field Layout.withVersion placeOf
     State.lawfulLength State.lawfulState State.lawfulStore State.isIdle
     Phases.ahead Phases.walked Phases.descend Phases.walkBy Phases.walkOf Phases.readOf Phases.seekBy Phases.seekOf
     Phases.lockOf Phases.checkBy Phases.checkOf Phases.addVersion Phases.updateNode Phases.updateAt Phases.updateOf
@@ -76,7 +76,7 @@ by-store c = record {
 }
 
 unfoldable pub by-figure : Case → Seen
-unfolding Layout.capacity Layout.word Layout.withWord Layout.field Layout.withVersion trailingZeros topOf
+unfolding Layout.capacity Layout.joined Layout.word Layout.withWord Layout.field Layout.withVersion trailingZeros topOf
     Figure.keyOf Figure.refNode Figure.initLocks new Figure.find Figure.findAll Figure.get Figure.link Figure.create Figure.createAndLink
     Figure.update Figure.findLock Figure.insert Figure.tryInsert Figure.insertAbove Figure.insertAll Figure.putH put
     OneByOne.figureReply OneByOne.figureMemory figureAll figureLeft
@@ -122,10 +122,11 @@ cases =
     case 2 1 (putting 0 7 5 100 1 ∷ putting 0 8 6 100 0 ∷ []) ∷
     case 3 3 (putting 0 3 5 100 0 ∷ putting 1 9 6 100 0 ∷ putting 0 5 8 100 8 ∷ getting 0 5 ∷ getting 1 9 ∷ []) ∷
     case 3 3 (putting 0 3 5 100 2 ∷ putting 0 5 6 100 1 ∷ putting 0 9 8 100 8 ∷ getting 0 4 ∷ getting 0 9 ∷ []) ∷
+    case 3 3 (putting 0 4_294_967_303 5 100 2 ∷ putting 0 7 6 100 1 ∷ putting 0 18_446_744_073_709_551_614 8 100 8 ∷ getting 0 7 ∷ getting 0 4_294_967_303 ∷ getting 0 4_294_967_302 ∷ []) ∷
     case 4 5 (putting 0 9 5 100 16 ∷ putting 1 3 6 100 4 ∷ putting 0 5 8 100 2 ∷ putting 1 7 4 100 32 ∷ putting 0 5 9 101 0 ∷ getting 0 5 ∷ []) ∷
     []
 
-pub all-agree : map agree cases ≡ replicate 10 true
+pub all-agree : map agree cases ≡ replicate 11 true
 unfolding agree cases
 all-agree = refl
 
@@ -156,7 +157,7 @@ thrice = refl
 
 -- while process 1 waits for the lock of the left sentinel, process 0 puts tray 7
 unfoldable pub meanwhile : Memory → Memory
-unfolding Layout.capacity Layout.word Layout.withWord Layout.field Layout.withVersion trailingZeros topOf
+unfolding Layout.capacity Layout.joined Layout.word Layout.withWord Layout.field Layout.withVersion trailingZeros topOf
     Figure.keyOf Figure.refNode Figure.find Figure.findAll Figure.link Figure.create Figure.createAndLink Figure.update Figure.findLock
     Figure.insert Figure.tryInsert Figure.insertAbove Figure.insertAll Figure.putH put
 meanwhile m = let after = put alone 0 bound m 7 5 100 1 .memory in if eqb (m .counts .nodes) 0 then after else m

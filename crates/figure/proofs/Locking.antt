@@ -6,11 +6,11 @@ use mathlib.Core.Logic.{_≢_}
 use mathlib.Core.Path.{_≡_, refl, sym, ap, _∙_, subst}
 use native.Mathlib.Omega.{arith}
 use lib.Dec.{T, eqb, leb}
-use Rattle.model.specs.Layout.{Memory, key, next, lock}
+use Rattle.model.specs.Layout.{Memory, key, next, lock, withWord}
 use Rattle.model.specs.Phases.{moved, at, ahead, seekBy, seekOf, lockOf, checkBy, checkOf, noEffect, fromPut, lawfulAt, phaseOf, turnOf}
 use Rattle.model.specs.Calls.{processAfter}
 use Rattle.model.proofs.Tests.{if-yes, if-no, by-eq, eq→eqb, ne→neqb}
-use Rattle.model.proofs.Words.{word-field}
+use Rattle.model.proofs.Words.{same-key, word-field}
 use Rattle.model.proofs.Invariant.{Ghost, Nodes}
 use Rattle.figure.specs.Types.{Put, Phase, Walk, Read, Seek, Lock, Check, Update, Make, Link, Release, Answer, Call, Process, Ahead, Wait, Go}
 use Rattle.figure.specs.Figure.{MAX, tail, keyOf, Pair, acquire, alone, findLock}
@@ -88,7 +88,8 @@ module _ {call : Call} (P : Asked Put call) (i made : ℕ) (a : Answer) (e : ℕ
         (omega arith)
 
     key-held : (x : ℕ) → key (held .nodes) x ≡ key (m .nodes) x
-    key-held x = word-field (m .nodes) q x (10 + l) 0 (i + 1) (omega (arith, R .level)) (omega arith) (omega arith)
+    key-held x = same-key (withWord (m .nodes) q (10 + l) (i + 1)) x (m .nodes) x
+        λ f k. word-field (m .nodes) q x (10 + l) f (i + 1) (omega (arith, R .level)) (omega arith) (omega arith)
 
     -- nothing of this has changed then
     pub held-ready : Ready held k l q

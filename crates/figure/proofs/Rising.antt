@@ -9,7 +9,7 @@ use lib.ListN.{length, getD}
 use Rattle.model.specs.Layout.{Memory, nodeWords, word, withWord, key, next, lock, withNode, nodeRecord}
 use Rattle.model.specs.Phases.{maxNodes, addNode, addLink}
 use Rattle.model.proofs.Tests.{by-eq}
-use Rattle.model.proofs.Words.{length-word, word-same, word-field, word-node, length-node, node-in, node-out, node-locks}
+use Rattle.model.proofs.Words.{same-key, written-key, length-word, word-same, word-field, word-node, length-node, node-in, node-out, node-locks}
 use Rattle.figure.specs.Types.{Call, Cursor, Make, Link}
 use Rattle.figure.specs.Figure.{release, acquire, alone}
 
@@ -82,8 +82,8 @@ module _ (m : Memory) (call : Call) (i q : ℕ) (size : length (m .nodes) ≡ no
     nodes-is = refl;
     size = length-word t₃ q 10 0 ∙ long₃;
     room = omega (arith, size);
-    keys = λ z hz. older z 0 (omega arith) (omega arith) (omega arith) hz;
-    key-is = newer 0 (omega arith);
+    keys = λ z hz. same-key (withWord t₃ q 10 0) z (m .nodes) z λ f k. older z f (omega arith) (omega arith) (omega arith) hz;
+    key-is = written-key (withWord t₃ q 10 0) x (call .key) v (call .top) (next t₁ 0 q) λ f k. newer f (omega arith);
     links = λ j z hj j5 hz. older z (4 + j) (omega arith) (omega arith) (omega arith) hz;
     locks = λ j z j5 hz. by-eq j 0 (λ e. rw e (bottom-lock z hz))
         (λ ne. older z (10 + j) (omega arith) (omega arith) (omega arith) hz);
@@ -123,6 +123,9 @@ module _ (m M : Memory) (k l i p : ℕ) (R : Risen m M k l) (l5 : suc l ≤ 5) (
       ∙ word-field (M₁ .nodes) n z (4 + L) f (next (M₁ .nodes) L p) (omega arith) hf n4
       ∙ word-field (M .nodes) p z (10 + L) f (i + 1) (omega arith) hf n10
 
+  kept-key : (z : ℕ) → key (withWord s₃ p (10 + L) 0) z ≡ key (M .nodes) z
+  kept-key z = same-key (withWord s₃ p (10 + L) 0) z (M .nodes) z λ f k. spared z f (omega arith) (omega arith) (omega arith)
+
   -- the locks of this level: p's was taken and freed
   other-lock : (z : ℕ) → z ≢ p → lock (withWord s₃ p (10 + L) 0) L z ≡ lock (M .nodes) L z
   other-lock z ne =
@@ -142,8 +145,8 @@ module _ (m M : Memory) (k l i p : ℕ) (R : Risen m M k l) (l5 : suc l ≤ 5) (
     nodes-is = R .nodes-is;
     size = length-word s₃ p (10 + L) 0 ∙ long₄;
     room = R .room;
-    keys = λ z hz. spared z 0 (omega arith) (omega arith) (omega arith) ∙ R .keys z hz;
-    key-is = spared n 0 (omega arith) (omega arith) (omega arith) ∙ R .key-is;
+    keys = λ z hz. kept-key z ∙ R .keys z hz;
+    key-is = kept-key n ∙ R .key-is;
     links = λ j z hj j5 hz. spared z (4 + j) (omega arith) (omega arith) (omega arith) ∙ R .links j z (omega arith) j5 hz;
     locks = λ j z j5 hz. by-eq j L
         (λ e. rw e (level-lock z hz)) (λ ne. spared z (10 + j) (omega arith) (omega arith) (omega arith) ∙ R .locks j z j5 hz);

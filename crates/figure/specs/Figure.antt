@@ -12,7 +12,7 @@ use lib.ListN.{replicate}
 use lib.Seq.{sets}
 use Rattle.figure.specs.Types.{Answer, TooOld, VersionsFull, Added, KeysFull, New, Found, None}
 use Rattle.model.specs.Choice.{if_then_else_}
-use Rattle.model.specs.Layout.{limits, nodeWords, topLevel, Memory, key, newest, next, timestamp, versionAt, withNewest, withNext, withLock, withVersion}
+use Rattle.model.specs.Layout.{limits, nodeWords, topLevel, nodeWith, Memory, key, newest, next, timestamp, versionAt, withNewest, withNext, withLock, withVersion}
 use Rattle.model.specs.Numbers.{noVersion}
 use Rattle.model.specs.Map.{Reply}
 use Rattle.model.specs.Phases.{maxNodes, maxVersions}
@@ -27,7 +27,7 @@ abbrev pub NULL : ℕ
 NULL = 0
 
 -- "two nodes, referred to as the left and right sentinels, with keys MIN and MAX [..]; these values bound the range of valid
--- keys": document 01's trays 0 and 4,294,967,295, which start no call
+-- keys": document 01's trays 0 and 18,446,744,073,709,551,615, which start no call
 abbrev pub MIN : ℕ
 MIN = 0
 
@@ -52,7 +52,7 @@ newlock = 0
 
 -- ref (k, val, locks, next) as the record of node n, with its top level h in document 01's word 2
 unfoldable pub refNode : (nodes : List ℕ) → (n k val h : ℕ) → (locks next : List ℕ) → List ℕ
-refNode nodes n k val h locks next = sets nodes (nodeWords * n) (k ∷ val ∷ h ∷ 0 ∷ next ++ locks)
+refNode nodes n k val h locks next = sets nodes (nodeWords * n) (nodeWith k val h next locks)
 
 -- AllocN n value: fixed tables, so every record of the node table has room for HMAX + 1 links and locks
 abbrev pub AllocN : (n value : ℕ) → List ℕ

@@ -56,7 +56,7 @@ module _ (w nodes versions tally : List ℕ) (i : ℕ) (known : isState w ≡ tr
   remembers h =
       let fits : startOf i + sizes .process ≤ length w = omega (arith, h, state-long w known) in
       let long : length (part w i) ≡ sizes .process = length-take-le (sizes .process) (drop (startOf i) w) (rw length-drop (omega (arith, fits))) in
-      ap (λ p. length (p .preds)) (process-at w i h) ∙ length-take-le 6 (drop 12 (part w i)) (rw length-drop (omega (arith, long)))
+      ap (λ p. length (p .preds)) (process-at w i h) ∙ length-take-le 6 (drop 13 (part w i)) (rw length-drop (omega (arith, long)))
 
   moved : i < limits .processes → (v : Move) (m : Memory) → written w i (storeAfter store i v m .state) ≡ stateWords (storeAfter store i v m .state)
   moved h v m = cases v

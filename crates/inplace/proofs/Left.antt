@@ -64,7 +64,7 @@ module _ (w tally : List ℕ) (at tick : ℕ) (counts : Counts) where
           left-moved Wait lentPart u tally (Stepping.Waited tick) refl (sym (process-back lentPart long own)) long
           (put ∙ ap (λ r. putEvent r tick counts) (sym (put-same at (at + sizes .process - at) w))) refl refl
 
-      pub left-goes : (v : Move) (c : Cursor) (part u : List ℕ) → v ≡ Go c → part ≡ sets lentPart 6 (cursorWords c)
+      pub left-goes : (v : Move) (c : Cursor) (part u : List ℕ) → v ≡ Go c → part ≡ sets lentPart 7 (cursorWords c)
           → length part ≡ sizes .process → u ≡ putEvent (putMid at (at + sizes .process - at) w part) tick counts
           → record { outcome = Stepping.Moved tick; words = u; tally = tally } ≡ leaveIn tick counts v w at tally
       unfolding outcomeOf tallyAfter

@@ -11,7 +11,7 @@ use store::status::status;
 use words::state::is_state;
 use words::state::state_in;
 
-pub fn look_in(words: &[u32], nodes: &[u32], versions: &[u32], key: u32, back: u32) -> Looking
+pub fn look_in(words: &[u32], nodes: &[u32], versions: &[u32], key: u64, back: u32) -> Looking
     ensures { λ r. ⌜ r ≡ lookIn (now (words .entry)) (now (nodes .entry)) (now (versions .entry)) key back ⌝ }
 {
     if !is_state(words) {

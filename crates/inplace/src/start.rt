@@ -26,7 +26,7 @@ fn start_in(
     versions: &[u32],
     process: u32,
     kind: Kind,
-    key: u32,
+    key: u64,
     value: u32,
     timestamp: u32,
     top: u32,
@@ -66,7 +66,7 @@ pub fn start_put_in(
     nodes: &[u32],
     versions: &[u32],
     process: u32,
-    key: u32,
+    key: u64,
     value: u32,
     timestamp: u32,
     draw: u16,
@@ -92,7 +92,7 @@ pub fn start_get_in(
     nodes: &[u32],
     versions: &[u32],
     process: u32,
-    key: u32,
+    key: u64,
 ) -> Starting
     ensures { λ r. ⌜ record { outcome = r; words = now (words .exit) } ≡ startGetIn (now (words .entry)) (now (nodes .entry)) (now (versions .entry)) process key ⌝ }
 {

@@ -9,7 +9,7 @@ use Rattle.model.specs.Layout.{Memory, nodeWords, capacity, word, key, n
 use Rattle.model.specs.Map.{Map}
 use Rattle.model.specs.Phases.{maxNodes, withHolder}
 use Rattle.model.proofs.Tests.{by-eq}
-use Rattle.model.proofs.Words.{length-word, word-same, word-field, word-other}
+use Rattle.model.proofs.Words.{same-key, length-word, word-same, word-field, word-other}
 use Rattle.model.proofs.Level.{kept}
 use Rattle.model.proofs.Invariant.{Ghost, In, Nodes, Book, Climbs, Risen}
 use Rattle.model.proofs.Frame.{Grown, Frame}
@@ -88,11 +88,14 @@ module _ (m : Memory) (g : Ghost) (N : Nodes m g) (c : Cursor) (v : ℕ) (l6 : c
     pub lock-field : (x f : ℕ) → f < 16 → f ≢ 10 + c .level → word (m′ .nodes) x f ≡ word (m .nodes) x f
     lock-field x f f16 ne = word-field (m .nodes) (c .pred) x (10 + c .level) f v (omega arith) f16 ne
 
+    lock-key : (x : ℕ) → key (m′ .nodes) x ≡ key (m .nodes) x
+    lock-key x = same-key (m′ .nodes) x (m .nodes) x λ f k. lock-field x f (omega arith) (omega arith)
+
     pub lock-alike : Alike m m′ g
     lock-alike = record {
       length-is = length-word (m .nodes) (c .pred) (10 + c .level) v;
       count-is = refl;
-      keys = λ x h. lock-field x 0 (omega arith) (omega arith);
+      keys = λ x h. lock-key x;
       tops = λ x h. lock-field x 2 (omega arith) (omega arith);
       links = λ j x i. let j6 = six i in lock-field x (4 + j) (omega arith) (omega arith);
     }
@@ -106,7 +109,7 @@ module _ (m : Memory) (g : Ghost) (N : Nodes m g) (c : Cursor) (v : ℕ) (l6 : c
       room = B .room;
       count = B .count;
       sum = B .sum;
-      keys = λ i h. rw (lock-field (suc i) 0 (omega arith) (omega arith)) (B .keys i h);
+      keys = λ i h. rw (lock-key (suc i)) (B .keys i h);
       places = λ i h. rw (lock-field (suc i) 1 (omega arith) (omega arith)) (B .places i h);
       chains = λ i h. rw (lock-field (suc i) 1 (omega arith) (omega arith)) (B .chains i h);
       sorted = B .sorted;

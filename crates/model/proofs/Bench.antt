@@ -113,7 +113,7 @@ answer-to ledger o r = lists (ledger-of r)
 unfoldable pub said : Case → Said
 unfolding open-bench start call-of ledger-of answer-to
     numberOf placeOf
-    capacity word Layout.withWord Layout.withNode Layout.freshNodes Layout.field Layout.withVersion
+    capacity Layout.joined word Layout.withWord Layout.withNode Layout.freshNodes Layout.field Layout.withVersion
     State.lawfulLength State.lawfulState State.lawfulStore State.isIdle
     Phases.ahead Phases.walked Phases.descend Phases.walkBy Phases.walkOf Phases.readOf Phases.seekBy Phases.seekOf
     Phases.lockOf Phases.checkBy Phases.checkOf Phases.addVersion Phases.updateNode Phases.updateAt Phases.updateOf
@@ -174,6 +174,10 @@ get n k = startGet 0 k ∷ steps n 0
 abbrev pub times : ℕ → List Action → List Action
 times zero actions = []
 times (suc n) actions = actions ++ times n actions
+
+-- trays that are alike in one half: their order is 5, 2³² - 1, 2³², 2³² + 5, and they are put in another
+abbrev pub alike-in-half : List Action
+alike-in-half = put 11 4_294_967_301 5 100 ++ put 11 4_294_967_295 6 100 ++ put 11 5 8 100 ++ put 13 4_294_967_296 9 100
 
 -- processes 0 and 1 start a put each and make seven steps each, in turn: walk and seek, up to the lock
 abbrev pub side-by-side : (k₀ v₀ t₀ k₁ v₁ t₁ : ℕ) → List Action
@@ -370,7 +374,7 @@ altered link versions = inspectOf
 
 -- "fewer nodes seen than those whose top reaches it"
 unlinked-node : altered 0 1 ≡ Inspecting.Fault 0 0
-unfolding altered Layout.word Layout.field Layout.capacity State.lawfulLength State.lawfulState State.lawfulStore State.isIdle
+unfolding altered Layout.joined Layout.word Layout.field Layout.capacity State.lawfulLength State.lawfulState State.lawfulStore State.isIdle
     Inspection.chainFalls Inspection.chainAges Inspection.chainSound Inspection.versionsSound Inspection.reaching
     Inspection.levelFrom Inspection.levelsFrom Inspection.inspection Inspection.idleBelow Inspection.inspectPermit
     Inspection.inspectBy inspectOf
@@ -378,7 +382,7 @@ unlinked-node = refl
 
 -- "a reading place that is 0 or not in use", also where no version is
 no-version : altered 1 0 ≡ Inspecting.Fault 0 1
-unfolding altered Layout.word Layout.field Layout.capacity State.lawfulLength State.lawfulState State.lawfulStore State.isIdle
+unfolding altered Layout.joined Layout.word Layout.field Layout.capacity State.lawfulLength State.lawfulState State.lawfulStore State.isIdle
     Inspection.chainFalls Inspection.chainAges Inspection.chainSound Inspection.versionsSound Inspection.reaching
     Inspection.levelFrom Inspection.levelsFrom Inspection.inspection Inspection.idleBelow Inspection.inspectPermit
     Inspection.inspectBy inspectOf

@@ -240,6 +240,20 @@ cases =
     -- "its link not in use; the next tray number not greater"
     fault (node 0 4 2) 0 0 ∷ fault (node 0 6 2) 2 0 ∷
     fault (node 0 0 7) 0 0 ∷ sound (node 0 0 6) ∷ fault (node 1 4 1) 0 1 ∷
+    -- and of a tray number both halves: node 0 after tray 7, tray 3 + 2³² before tray 7
+    fault (node 0 3 1) 0 0 ∷
+    record {
+      bench = fit 2 3 1 400;
+      actions = put 11 3 5 100 ++ put 12 7 6 101;
+      alter = node 1 3 1;
+      question = inspect;
+      expected = inspected (Inspecting.Fault 0 1);
+    } ∷
+    -- a tray whose high half was altered is another tray: 7 + 9 · 2³²
+    sound (node 1 3 9) ∷
+    stepping (node 1 3 9) (a-get Walk 0 0 0) (done Get None 0 0 20 25 25) ∷
+    altered (node 1 3 9) (call (look 7 0)) (no-look NoKey) ∷
+    altered (node 1 3 9) (call (look 38_654_705_671 0)) (shows 6 101) ∷
     -- "the next node's top below the level; at the level's end, fewer nodes seen than those whose top reaches it"
     fault (node 0 5 1) 1 0 ∷ fault (node 0 4 0) 0 0 ∷ fault (node 1 2 1) 1 0 ∷
     sound (λ w. node 1 2 1 (node 0 5 1 w)) ∷
@@ -251,8 +265,8 @@ cases =
       question = inspect;
       expected = inspected (Inspecting.Fault 0 1);
     } ∷
-    -- nor word 3, the head's top, a top above 5 that is linked, nor what is not in use makes a fault
-    sound (node 1 3 9) ∷ sound (node 0 2 0) ∷ sound (node 2 2 5) ∷ sound (version 0 2 9) ∷
+    -- the head's top, a top above 5 that is linked, and what is not in use make no fault
+    sound (node 0 2 0) ∷ sound (node 2 2 5) ∷ sound (version 0 2 9) ∷
     sound (λ w. node 1 2 6 (node 0 5 1 (node 0 6 1 (node 0 7 1 (node 0 8 1 (node 0 9 1 w)))))) ∷
     []
 

@@ -39,7 +39,7 @@ use Rattle.model.specs.History.{isGranted, isDenied, unless, sawStart, s
 pub constants :
     limits .nodewords ∷ limits .versionwords ∷ limits .top ∷ limits .nodes ∷ limits .versions ∷ limits .processes
     ∷ limits .events ∷ limits .key ∷ limits .answers ∷ limits .count ∷ levels ∷ []
-    ≡ 16 ∷ 3 ∷ 5 ∷ 1_023 ∷ 4_095 ∷ 8 ∷ 1_000_000_000 ∷ 4_294_967_294 ∷ 7 ∷ 4_294_967_295 ∷ 6 ∷ []
+    ≡ 16 ∷ 3 ∷ 5 ∷ 1_023 ∷ 4_095 ∷ 8 ∷ 1_000_000_000 ∷ 18_446_744_073_709_551_614 ∷ 7 ∷ 4_294_967_295 ∷ 6 ∷ []
 constants = refl
 
 -- document 01's refusals and answers, in its order

@@ -11,7 +11,7 @@ use Rattle.model.specs.Map.{Map}
 use Rattle.model.specs.Phases.{at, usedNode, addLink, linkOf}
 use Rattle.model.specs.Calls.{processAfter}
 use Rattle.model.proofs.Tests.{if-by, by-eq, T-absurd}
-use Rattle.model.proofs.Words.{length-word, word-same, word-node, word-other}
+use Rattle.model.proofs.Words.{same-key, length-word, word-same, word-node, word-other}
 use Rattle.model.proofs.Level.{Level, inserted, kept}
 use Rattle.model.proofs.Invariant.{Ghost, In, Nodes, Book, At, PlacedOf, Clear, ClearOf, Made, HoldsOf, Stage, StageOf, Climbs, Risen}
 use Rattle.model.proofs.Frame.{Grown, Frame, placed-kept}
@@ -64,7 +64,7 @@ module _ (m : Memory) (g : Ghost) (s lv p x k tp : ℕ) (N : Nodes m g) (a : At 
   other-word z f f16 ne = old-word z f f16 (λ q. ne) (λ q. ne)
 
   keys : (z : ℕ) → key (m′ .nodes) z ≡ key (m .nodes) z
-  keys z = other-word z 0 (omega arith) (omega arith)
+  keys z = same-key (m′ .nodes) z (m .nodes) z λ f k. other-word z f (omega arith) (omega arith)
 
   tops : (z : ℕ) → top (m′ .nodes) z ≡ top (m .nodes) z
   tops z = other-word z 2 (omega arith) (omega arith)

@@ -15,7 +15,7 @@ use Rattle.model.specs.Map.{Entry, Map, answered, putBy, putIn}
 use Rattle.model.specs.Phases.{ownVersion, maxNodes, maxVersions, committed, addNode, makeOf}
 use Rattle.model.specs.Calls.{processAfter}
 use Rattle.model.proofs.Tests.{if-by, if-lt, if-yes, if-no, by-eq}
-use Rattle.model.proofs.Words.{length-word, word-same, word-node, word-other, length-node, node-in, node-out, length-version, version-in, version-out}
+use Rattle.model.proofs.Words.{same-key, written-key, length-word, word-same, word-node, word-other, length-node, node-in, node-out, length-version, version-in, version-out}
 use Rattle.model.proofs.Level.{Level, absent, inserted, kept}
 use Rattle.model.proofs.MapLaws.{no-entry, held-snoc}
 use Rattle.model.proofs.Invariant.{Ghost, In, Nodes, Chain, Book, At, PlacedOf, Clear, ClearOf, Made, HoldsOf, Climbs, Risen}
@@ -90,13 +90,13 @@ module _ (m : Memory) (g : Ghost) (s : ℕ) (call : Call) (p : ℕ) (b : Map) (N
     back-word = word-same t₁ p 4 x (omega arith) (omega (arith, length₁, inside p (omega (arith, a .used))))
 
     keys : (z : ℕ) → z ≤ m .counts .nodes → key (m′ .nodes) z ≡ key (m .nodes) z
-    keys z h = old-word z 0 h (omega arith) (λ q. omega arith)
+    keys z h = same-key (m′ .nodes) z (m .nodes) z λ f k. old-word z f h (omega arith) (λ q. omega arith)
 
     tops : (z : ℕ) → z ≤ m .counts .nodes → top (m′ .nodes) z ≡ top (m .nodes) z
     tops z h = old-word z 2 h (omega arith) (λ q. omega arith)
 
     key-x : key (m′ .nodes) x ≡ call .key
-    key-x = new-word 0 (omega arith)
+    key-x = written-key (m′ .nodes) x (call .key) i (call .top) (next (m .nodes) 0 p) λ f k. new-word f (omega arith)
 
     high-old : (z : ℕ) → z ≤ m .counts .nodes → g′ .high z ≡ g .high z
     high-old z h = changed-other (g .high) x 1 z (omega arith)
@@ -219,11 +219,11 @@ module _ (m : Memory) (g : Ghost) (s : ℕ) (call : Call) (p : ℕ) (b : Map) (N
     entry-x = getD-at b e [] no-entry (m .counts .nodes) (B .count)
 
     -- node n + 1, written as the book has it
-    at-x : (f : ℕ) → word (m′ .nodes) (suc (m .counts .nodes)) f ≡ word (m′ .nodes) x f
-    at-x f = ap (λ z. word (m′ .nodes) z f) (sym (add-one (m .counts .nodes)))
+    at-x : suc (m .counts .nodes) ≡ x
+    at-x = sym (add-one (m .counts .nodes))
 
     newest-x : newest (m′ .nodes) (suc (m .counts .nodes)) ≡ i
-    newest-x = at-x 1 ∙ new-word 1 (omega arith)
+    newest-x = ap (newest (m′ .nodes)) at-x ∙ new-word 1 (omega arith)
 
     newest-old : (z : ℕ) → z ≤ m .counts .nodes → newest (m′ .nodes) z ≡ newest (m .nodes) z
     newest-old z h = old-word z 1 h (omega arith) (λ q. omega arith)
@@ -243,7 +243,7 @@ module _ (m : Memory) (g : Ghost) (s : ℕ) (call : Call) (p : ℕ) (b : Map) (N
       count = omega (arith, length-append b (e ∷ []), B .count);
       sum = omega (arith, B .sum, held-snoc b e);
       keys =
-          λ j h. split j h (λ o. rw (entry-old j o, keys (suc j) o) (B .keys j o)) (λ q. rw (q, entry-x) (sym (at-x 0 ∙ key-x)));
+          λ j h. split j h (λ o. rw (entry-old j o, keys (suc j) o) (B .keys j o)) (λ q. rw (q, entry-x) (sym (ap (key (m′ .nodes)) at-x ∙ key-x)));
       places =
           λ j h. split j h (λ o. let w = B .places j o in rw (newest-old (suc j) o) (w .0, omega arith)) (λ q. rw (q, newest-x) (omega arith));
       chains = λ j h. split j h

@@ -16,7 +16,7 @@ use Rattle.model.specs.Calls.{openPermit, Opened, openBy, openOf, Store}
 use Rattle.model.specs.History.{emptyHistory, begin}
 use Rattle.model.specs.Linearizability.{answeredBy}
 use Rattle.model.proofs.Tests.{if-by, and→, by-le}
-use Rattle.model.proofs.Words.{filled, length-word, word-same, word-other}
+use Rattle.model.proofs.Words.{filled, zero-key, length-word, word-same, word-other}
 use Rattle.model.proofs.Level.{Level}
 use Rattle.model.proofs.Invariant.{Ghost, In, Nodes, Book, Fits}
 use Rattle.model.proofs.Effects.{nothing, played, nothing≢took}
@@ -101,18 +101,21 @@ module _ (nodes versions : List ℕ) (processes limit : ℕ) (law : Lawful nodes
   fresh-top =
       word-same (replicate n 0) 0 2 5 (omega arith) (omega (arith, length-replicate {A = ℕ} n 0, node-size n (law .node-length)))
 
+  fresh-key : (x : ℕ) → key (freshNodes n) x ≡ 0
+  fresh-key x = zero-key (freshNodes n) x λ f k. fresh-word x f (omega arith) (λ e. omega arith)
+
   fresh-level : (l : ℕ) → Level (In m₀ g₀ l) (key (m₀ .nodes)) (next (m₀ .nodes) l)
   fresh-level l = record {
     step = λ x i ne. absurd (ne (fresh-word x (4 + l) (omega (arith, i .1)) (λ e. omega arith)));
     gap =
-        λ x z i j lt. absurd (omega (arith, fresh-word x 0 (omega arith) (λ e. omega arith), fresh-word z 0 (omega arith) (λ e. omega arith)));
+        λ x z i j lt. absurd (omega (arith, fresh-key x, fresh-key z));
   }
 
   fresh-nodes : Nodes m₀ g₀
   fresh-nodes = record {
     size = omega (arith, fresh-length, ap (capacity nodeWords) fresh-length, node-size n (law .node-length));
     room = omega arith;
-    head-key = fresh-word 0 0 (omega arith) (λ e. omega arith);
+    head-key = fresh-key 0;
     head-high = refl;
     high = λ x h. omega arith;
     inj = λ x y hx hy e. omega arith;

@@ -12,7 +12,7 @@ use Rattle.model.specs.State.{idleProcess}
 use Rattle.model.specs.History.{startPut, startGet, step, look}
 use Rattle.model.proofs.Bench.{Case, call, status, inspect, tally, tables, word-of, process, observer, ledger}
 use Rattle.model.proofs.Bench.{started, stands, inspected, words, keeps, lists, start, said, lent, fit}
-use Rattle.model.proofs.Bench.{with-tally, case, steps, put, get, times, side-by-side, done, on, wait, shows}
+use Rattle.model.proofs.Bench.{with-tally, case, alike-in-half, steps, put, get, times, side-by-side, done, on, wait, shows}
 use Rattle.model.proofs.Bench.{no-start, no-step, no-look, one, two, draw-gives, draw-makes, opens, thrice}
 use Rattle.model.proofs.Bench.{tall, stairs, climbing, overtaken, kept, both, entry, mixed}
 
@@ -85,14 +85,15 @@ others =
     case one (get 0 7) (call (startGet 0 0)) (no-start BadKey) ∷
     case (fit 2 3 2 1) (get 0 7) (call (startGet 0 7)) (no-start Busy) ∷
     case (fit 2 3 2 1) (get 0 7) (call (startGet 1 7)) (no-start Spent) ∷
-    -- "6 tray 0 or 4,294,967,295"; "Tray 1 and 4,294,967,294 start."
+    -- P3: "Trays run from 1 to 18,446,744,073,709,551,614, and refusal 6 reads that range."
     case one [] (call (startPut 0 0 5 100 1)) (no-start BadKey) ∷
     case one [] (call (startPut 0 1 5 100 1)) (started (Starting.Started 1)) ∷
-    case one [] (call (startPut 0 4_294_967_294 5 100 1)) (started (Starting.Started 1)) ∷
-    case one [] (call (startPut 0 4_294_967_295 5 100 1)) (no-start BadKey) ∷
+    case one [] (call (startPut 0 4_294_967_295 5 100 1)) (started (Starting.Started 1)) ∷
+    case one [] (call (startPut 0 18_446_744_073_709_551_614 5 100 1)) (started (Starting.Started 1)) ∷
+    case one [] (call (startPut 0 18_446_744_073_709_551_615 5 100 1)) (no-start BadKey) ∷
     case one [] (call (startGet 0 1)) (started (Starting.Started 1)) ∷
-    case one [] (call (startGet 0 4_294_967_294)) (started (Starting.Started 1)) ∷
-    case one [] (call (startGet 0 4_294_967_295)) (no-start BadKey) ∷
+    case one [] (call (startGet 0 18_446_744_073_709_551_614)) (started (Starting.Started 1)) ∷
+    case one [] (call (startGet 0 18_446_744_073_709_551_615)) (no-start BadKey) ∷
     -- "Step: 10, 5, 8, 9, 11."; "Limit 1: the start is tick 1, the step is refused 9."
     case one [] (call (step 1)) (no-step NoProcess) ∷
     case (fit 2 3 2 1) (get 0 7) (call (step 1)) (no-step NoCall) ∷
@@ -106,6 +107,21 @@ others =
     (words (0 ∷ 0 ∷ 5 ∷ replicate 7 0 ++ (2 ∷ replicate 27 0))) ∷
     case (fit 1 2 1 400) (put 11 7 5 100 ++ put 11 7 6 100) tables
     (words (0 ∷ 0 ∷ 5 ∷ 0 ∷ 1 ∷ replicate 11 0 ++ (7 ∷ 2 ∷ replicate 17 0) ++ (5 ∷ 100 ∷ 0 ∷ 6 ∷ 100 ∷ 1 ∷ []))) ∷
+    -- P3: "Word 3 of a node takes the high half": the greatest tray, and trays alike in one half in the order of the whole number
+    case (fit 1 1 1 400) (put 11 18_446_744_073_709_551_614 5 100) tables
+    (words (0 ∷ 0 ∷ 5 ∷ 0 ∷ 1 ∷ replicate 11 0
+    ++ (4_294_967_294 ∷ 1 ∷ 0 ∷ 4_294_967_295 ∷ replicate 15 0) ++ (5 ∷ 100 ∷ 0 ∷ []))) ∷
+    case (fit 4 4 1 400) alike-in-half tables
+    (words (0 ∷ 0 ∷ 5 ∷ 0 ∷ 3 ∷ replicate 11 0
+    ++ (5 ∷ 1 ∷ 0 ∷ 1 ∷ 0 ∷ replicate 11 0) ++ (4_294_967_295 ∷ 2 ∷ 0 ∷ 0 ∷ 4 ∷ replicate 11 0)
+    ++ (5 ∷ 3 ∷ 0 ∷ 0 ∷ 2 ∷ replicate 11 0) ++ (0 ∷ 4 ∷ 0 ∷ 1 ∷ 1 ∷ replicate 11 0)
+    ++ (0 ∷ 0 ∷ 0 ∷ 5 ∷ 100 ∷ 0 ∷ 6 ∷ 100 ∷ 0 ∷ 8 ∷ 100 ∷ 0 ∷ 9 ∷ 100 ∷ 0 ∷ []))) ∷
+    case (fit 4 4 1 400) (alike-in-half ++ get 8 4_294_967_296) (call (step 0)) (done Get Found 9 100 51 60 60) ∷
+    case (fit 4 4 1 400) (alike-in-half ++ get 8 4_294_967_300) (call (step 0)) (done Get None 0 0 51 60 60) ∷
+    case (fit 4 4 1 400) alike-in-half (call (look 5 0)) (shows 8 100) ∷
+    case (fit 4 4 1 400) alike-in-half (call (look 4_294_967_301 0)) (shows 5 100) ∷
+    case (fit 4 4 1 400) alike-in-half (call (look 8_589_934_597 0)) (no-look NoKey) ∷
+    case (fit 4 4 1 400) alike-in-half inspect (inspected Inspecting.Sound) ∷
     case (fit 3 3 1 400) (tall ++ steps 1 0) tables (words (
     0 ∷ 0 ∷ 5 ∷ 0 ∷ 1 ∷ 1 ∷ 1 ∷ 1 ∷ 1 ∷ 1 ∷ replicate 6 0
     ++ (3 ∷ 1 ∷ 5 ∷ 0 ∷ 3 ∷ 3 ∷ 3 ∷ 3 ∷ 2 ∷ 2 ∷ replicate 6 0)
@@ -181,7 +197,7 @@ others =
     -- the last line of the sheet that document 01 prints; "Look: 10, 6, 12, 11, 13", and the older versions
     case (fit 2 3 1 40) (get 6 7) (call (look 7 0)) (no-look NoKey) ∷
     case one [] (call (look 0 0)) (no-look BadKey) ∷
-    case one [] (call (look 4_294_967_295 0)) (no-look BadKey) ∷
+    case one [] (call (look 18_446_744_073_709_551_615 0)) (no-look BadKey) ∷
     case one thrice (call (look 7 0)) (shows 8 101) ∷
     case one thrice (call (look 7 1)) (shows 6 100) ∷
     case one thrice (call (look 7 2)) (shows 5 100) ∷

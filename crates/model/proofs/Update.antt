@@ -15,7 +15,7 @@ use Rattle.model.specs.Map.{Map, held, pushed, answered, putBy, putIn}
 use Rattle.model.specs.Phases.{ownVersion, usedNode, usedVersion, maxNodes, maxVersions, committed, addVersion, updateNode, updateAt, updateOf}
 use Rattle.model.specs.Calls.{processAfter}
 use Rattle.model.proofs.Tests.{if-by, if-yes, if-no, by-eq, T-absurd}
-use Rattle.model.proofs.Words.{length-word, word-same, word-field, word-node, length-version, version-in, version-out}
+use Rattle.model.proofs.Words.{same-key, length-word, word-same, word-field, word-node, length-version, version-in, version-out}
 use Rattle.model.proofs.MapLaws.{no-entry, First, versions-first, pushed-first, held-set, with-front}
 use Rattle.model.proofs.Invariant.{Ghost, In, Nodes, Chain, Below, Book, PlacedOf, Target, TargetOf, HoldsOf, Settled}
 use Rattle.model.proofs.Frame.{Frame, placed-kept, held-kept}
@@ -68,11 +68,14 @@ module _ (m : Memory) (g : Ghost) (call : Call) (b : Map) (N : Nodes m g) (B : B
     other-word : (y f : ℕ) → f < 16 → f ≢ 1 → word (m′ .nodes) y f ≡ word (m .nodes) y f
     other-word y f f16 ne = word-field (m .nodes) x y 1 f i (omega arith) f16 ne
 
+    keys : (y : ℕ) → key (m′ .nodes) y ≡ key (m .nodes) y
+    keys y = same-key (m′ .nodes) y (m .nodes) y λ f k. other-word y f (omega arith) (omega arith)
+
     pub add-alike : Alike m m′ g
     add-alike = record {
       length-is = length-word (m .nodes) x 1 i;
       count-is = refl;
-      keys = λ y h. other-word y 0 (omega arith) (omega arith);
+      keys = λ y h. keys y;
       tops = λ y h. other-word y 2 (omega arith) (omega arith);
       links = λ l y h. let l6 = six l y h in other-word y (4 + l) (omega arith) (omega arith);
     }
@@ -132,7 +135,7 @@ module _ (m : Memory) (g : Ghost) (call : Call) (b : Map) (N : Nodes m g) (B : B
           room = omega (arith, ap (capacity versionWords) versions-length);
           count = length-set b j (with-front (getD b j no-entry) (ownVersion call)) ∙ B .count;
           sum = omega (arith, B .sum, held-set b j (ownVersion call) lies);
-          keys = λ h lt. key-at h lt ∙ sym (other-word (suc h) 0 (omega arith) (omega arith));
+          keys = λ h lt. key-at h lt ∙ sym (keys (suc h));
           places = λ h lt. by-eq h j
               (λ e. rw (e, newest-x) (omega arith))
               (λ ne. let q = B .places h lt in rw (newest-other h ne) (q .0, omega arith));

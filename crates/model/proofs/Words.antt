@@ -8,7 +8,7 @@ use native.Mathlib.Omega.{arith}
 use lib.ListN.{length, getD, set, replicate, length-set}
 use lib.Seq.{sets, length-sets, getD-set-same, getD-set-other}
 use Rattle.model.specs.Types.{Version}
-use Rattle.model.specs.Layout.{nodeWords, versionWords, word, withWord, field, nodeRecord, withNode, withVersion}
+use Rattle.model.specs.Layout.{nodeWords, versionWords, wordSize, lowHalf, highHalf, joined, word, withWord, key, field, nodeRecord, withNode, withVersion}
 use Rattle.model.proofs.Tests.{by-eq, by-le}
 
 -- ---- one word of a node
@@ -36,6 +36,41 @@ word-node t x y f g v hf hg ne = getD-set-other t (nodeWords * x + f) (nodeWords
 pub word-other : (t : List ℕ) (x y f g v : ℕ) → f < nodeWords → g < nodeWords → (y ≡ x → g ≢ f)
     → word (withWord t x f v) y g ≡ word t y g
 word-other t x y f g v hf hg ne = by-eq y x (λ e. word-field t x y f g v hf hg (ne e)) (λ e. word-node t x y f g v hf hg e)
+
+-- ---- a key, of two words
+
+pub joined-halves : (k : ℕ) → joined (lowHalf k) (highHalf k) ≡ k
+unfolding joined
+joined-halves k = omega arith
+
+pub low-joined : (low high : ℕ) → low < wordSize → lowHalf (joined low high) ≡ low
+unfolding joined
+low-joined low high h = omega arith
+
+pub high-joined : (low high : ℕ) → low < wordSize → highHalf (joined low high) ≡ high
+unfolding joined
+high-joined low high h = omega arith
+
+-- The words of a key are neither its newest version's, nor its top's, nor links nor locks. Which they are, only these laws know.
+abbrev pub KeyField : ℕ → Type 0
+KeyField f = (f < 4) × (f ≢ 1) × (f ≢ 2)
+
+low-field : KeyField 0
+low-field = (omega arith, omega arith, omega arith)
+
+high-field : KeyField 3
+high-field = (omega arith, omega arith, omega arith)
+
+module _ (t : List ℕ) (x : ℕ) where
+  pub same-key : (u : List ℕ) (y : ℕ) → ((f : ℕ) → KeyField f → word t x f ≡ word u y f) → key t x ≡ key u y
+  same-key u y h = let low = h 0 low-field in let high = h 3 high-field in cc
+
+  pub written-key : (k v tp y : ℕ) → ((f : ℕ) → KeyField f → word t x f ≡ getD (nodeRecord k v tp y) f 0) → key t x ≡ k
+  written-key k v tp y h = rw (h 0 low-field, h 3 high-field) (joined-halves k)
+
+  pub zero-key : ((f : ℕ) → KeyField f → word t x f ≡ 0) → key t x ≡ 0
+  unfolding joined
+  zero-key h = omega (arith, h 0 low-field, h 3 high-field)
 
 -- ---- a run of words
 

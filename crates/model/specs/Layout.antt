@@ -1,6 +1,6 @@
 -- Document 01, "Memory": sizes, limits, and where each word stands in the two tables.
-use Prim.Native.Nat.{ℕ, suc, _+_, _*_, _-_, _/_}
-use mathlib.Core.List.{List, [], _∷_}
+use Prim.Native.Nat.{ℕ, suc, _+_, _*_, _-_, _/_, _%_}
+use mathlib.Core.List.{List, [], _∷_, _++_}
 use lib.ListN.{length, getD, set, replicate}
 use lib.Seq.{sets}
 use Rattle.model.specs.Types.{Counts, Limits, Version}
@@ -16,7 +16,7 @@ limits = record {
   versions = 4_095;  -- "so V = 1 to 4,095 readings"
   processes = 8;  -- "Stations 1 to 8"
   events = 1_000_000_000;  -- "The event limit, 1 to 1,000,000,000"
-  key = 4_294_967_294;  -- "tray 0 or 4,294,967,295" is refused
+  key = 18_446_744_073_709_551_614;  -- P3: "Trays run from 1 to 18,446,744,073,709,551,614"
   answers = 7;  -- "There are seven counts, one an answer."
   count = 4_294_967_295;  -- "a count at 4,294,967,295 stays"
 }
@@ -38,6 +38,22 @@ levels = suc topLevel
 unfoldable pub capacity : (words length : ℕ) → ℕ
 capacity words length = length / words - 1
 
+-- ---- a key in two words
+
+-- "All words are 32 bits.": how many numbers a word can hold
+abbrev pub wordSize : ℕ
+wordSize = 4_294_967_296
+
+abbrev pub lowHalf : ℕ → ℕ
+lowHalf k = k % wordSize
+
+abbrev pub highHalf : ℕ → ℕ
+highHalf k = k / wordSize
+
+-- the key whose halves are these
+unfoldable pub joined : (low high : ℕ) → ℕ
+joined low high = low + wordSize * high
+
 -- ---- the node table
 
 -- word f of node x
@@ -47,10 +63,10 @@ word t x f = getD t (nodeWords * x + f) 0
 unfoldable pub withWord : List ℕ → ℕ → ℕ → ℕ → List ℕ
 withWord t x f v = set t (nodeWords * x + f) v
 
--- "word 0 tray number, 1 place of the newest reading, 2 top level, 3 zero,
--- 4 to 9 links of levels 0 to 5, 10 to 15 locks of levels 0 to 5."
+-- "word 0 tray number, 1 place of the newest reading, 2 top level, [..] 4 to 9 links of levels 0 to 5, 10 to 15 locks of
+-- levels 0 to 5." P3: "Word 3 of a node takes the high half"
 abbrev pub key : List ℕ → ℕ → ℕ
-key t x = word t x 0
+key t x = joined (word t x 0) (word t x 3)
 
 abbrev pub newest : List ℕ → ℕ → ℕ
 newest t x = word t x 1
@@ -73,10 +89,14 @@ withNext t l x y = withWord t x (4 + l) y
 abbrev pub withLock : List ℕ → ℕ → ℕ → ℕ → List ℕ
 withLock t l x holder = withWord t x (10 + l) holder
 
+-- the sixteen words in their order
+abbrev pub nodeWith : (key newest top : ℕ) (links locks : List ℕ) → List ℕ
+nodeWith k v t links locks = lowHalf k ∷ v ∷ t ∷ highHalf k ∷ links ++ locks
+
 -- "A new tray's sixteen words are written as one record": "Its link at level 0 is the one p had, its other links and
 -- its locks are 0"
 abbrev pub nodeRecord : (key newest top next : ℕ) → List ℕ
-nodeRecord k v t y = k ∷ v ∷ t ∷ 0 ∷ y ∷ 0 ∷ 0 ∷ 0 ∷ 0 ∷ 0 ∷ 0 ∷ 0 ∷ 0 ∷ 0 ∷ 0 ∷ 0 ∷ []
+nodeRecord k v t y = nodeWith k v t (y ∷ 0 ∷ 0 ∷ 0 ∷ 0 ∷ 0 ∷ []) (0 ∷ 0 ∷ 0 ∷ 0 ∷ 0 ∷ 0 ∷ [])
 
 unfoldable pub withNode : List ℕ → ℕ → (key newest top next : ℕ) → List ℕ
 withNode t x k v tp y = sets t (nodeWords * x) (nodeRecord k v tp y)

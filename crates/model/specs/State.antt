@@ -76,7 +76,7 @@ lawfulNodes n = lawfulLength nodeWords (limits .nodes) n
 abbrev pub lawfulVersions : ℕ → Bool
 lawfulVersions n = lawfulLength versionWords (limits .versions) n
 
--- "6 tray 0 or 4,294,967,295"
+-- P3: "Trays run from 1 to 18,446,744,073,709,551,614, and refusal 6 reads that range"
 abbrev pub lawfulKey : ℕ → Bool
 lawfulKey k = within 1 (limits .key) k
 

@@ -57,7 +57,7 @@ pub enum Refusal {
 // What was asked, and the tick of its start: no step changes it.
 pub struct Call {
     pub kind: Kind,
-    pub key: u32,
+    pub key: u64,
     pub value: u32,
     pub timestamp: u32,
     pub top: u32,
@@ -211,7 +211,7 @@ pub struct Limits {
     pub versions: u32,
     pub processes: u32,
     pub events: u32,
-    pub key: u32,
+    pub key: u64,
     pub answers: u32,
     pub count: u32,
 }
@@ -265,7 +265,7 @@ impl State {
 
     pub const EVENTS: u32 = 1000000000;
 
-    pub const KEY: u32 = 4294967294;
+    pub const KEY: u64 = 18446744073709551614;
 
     pub const ANSWERS: u32 = 7;
     // The greatest count of the tally: it stays there.

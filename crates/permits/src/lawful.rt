@@ -6,7 +6,7 @@ ghost use lib.Dec.{leb};
 ghost use lib.ListN.{length};
 ghost use Rattle.model.specs.declared.types.State.{State};
 ghost use Rattle.model.specs.Layout.{capacity};
-ghost use Rattle.model.specs.State.{within, lawfulLength, lawfulNodes, lawfulVersions, lawfulState, lawfulStore};
+ghost use Rattle.model.specs.State.{within, lawfulKey, lawfulLength, lawfulNodes, lawfulVersions, lawfulState, lawfulStore};
 ghost use Rattle.permits.specs.Header.{headerWords, headerOf};
 use model::types::State;
 
@@ -14,6 +14,12 @@ pub fn within(low: u32, high: u32, n: u32) -> bool
     ensures { λ r. ⌜ r ≡ within low high n ⌝ }
 {
     (low <= n) & (n <= high)
+}
+
+pub fn lawful_key(key: u64) -> bool
+    ensures { λ r. ⌜ r ≡ lawfulKey key ⌝ }
+{
+    (1 <= key) & (key <= State::KEY)
 }
 
 // The length of a node table, in words.

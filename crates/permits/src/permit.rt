@@ -11,6 +11,7 @@ ghost use Rattle.model.specs.Inspection.{idleBelow, inspectPermit};
 ghost use Rattle.permits.specs.Header.{headerWords, headerOf, Shows, storeOf};
 ghost use lib.ListN.{length};
 use crate::header::header_of;
+use crate::lawful::lawful_key;
 use crate::lawful::lawful_nodes;
 use crate::lawful::lawful_state;
 use crate::lawful::lawful_store;
@@ -67,14 +68,14 @@ pub fn start_permit(
     nodes: &[u32],
     versions: &[u32],
     process: u32,
-    key: u32,
+    key: u64,
 ) -> Permit
     requires { ⌜ length (now h) ≡ headerWords ⌝ }
     ensures { λ r. ⌜ ((s : State) → Shows s process (now (h .entry)) kind → r ≡ startPermit s (now (nodes .entry)) (now (versions .entry)) process key) ⌝ }
 {
     let lawful = lawful_store(h, nodes, versions);
     let no_process = h[1] <= process;
-    let lawful_key = within(1, State::KEY, key);
+    let lawful_key = lawful_key(key);
     let idle = is_idle(kind);
     let spent = h[2] <= h[3];
     let nine = deny_if(spent, Refusal::Spent, Permit::Granted);
@@ -114,12 +115,12 @@ pub fn step_permit(
     Permit::Granted
 }
 
-pub fn look_permit(h: &[u32], nodes: &[u32], versions: &[u32], key: u32) -> Permit
+pub fn look_permit(h: &[u32], nodes: &[u32], versions: &[u32], key: u64) -> Permit
     requires { ⌜ length (now h) ≡ headerWords ⌝ }
     ensures { λ r. ⌜ ((s : State) → headerOf s ≡ now (h .entry) → r ≡ lookPermit s (now (nodes .entry)) (now (versions .entry)) key) ⌝ }
 {
     let lawful = lawful_store(h, nodes, versions);
-    let lawful_key = within(1, State::KEY, key);
+    let lawful_key = lawful_key(key);
     let six = deny_unless(lawful_key, Refusal::BadKey, Permit::Granted);
     deny_unless(lawful, Refusal::Corrupt, six)
 }

@@ -114,7 +114,7 @@ pub fn update(
 }
 
 // A new node behind its predecessor at level 0.
-fn insert(nodes: &mut [u32], pred: u32, node: u32, key: u32, version: u32, top: u32)
+fn insert(nodes: &mut [u32], pred: u32, node: u32, key: u64, version: u32, top: u32)
     requires { ⌜ NodeRoom (now nodes) pred ⌝ }
     requires { ⌜ NodeRoom (now nodes) node ⌝ }
     ensures { λ r. ⌜ now (nodes .exit) ≡ withNext (withNode (now (nodes .entry)) node key version top (next (now (nodes .entry)) 0 pred)) 0 pred node ⌝ }

@@ -15,7 +15,7 @@ use tables::versions::prev_at;
 use tables::versions::version_at;
 
 // The first node that has the key, or 0; `used` is the last node in use.
-fn find(nodes: &[u32], used: u32, key: u32) -> u32
+fn find(nodes: &[u32], used: u32, key: u64) -> u32
     requires { ⌜ NodeRoom (now nodes) used ⌝ }
     ensures { λ r. ⌜ r ≡ findFrom (now (nodes .entry)) key used 1 ⌝ }
 {
@@ -69,7 +69,7 @@ fn look_node(counts: Counts, nodes: &[u32], versions: &[u32], back: u32, node: u
 }
 
 // The version of the key that lies `back` places behind its newest.
-pub fn look(s: State, nodes: &[u32], versions: &[u32], key: u32, back: u32) -> Looking
+pub fn look(s: State, nodes: &[u32], versions: &[u32], key: u64, back: u32) -> Looking
     ensures { λ r. ⌜ r ≡ lookOf s (now (nodes .entry)) (now (versions .entry)) key back ⌝ }
 {
     let h = header_of(s);

@@ -60,7 +60,7 @@ fn started(process: u32, r: StartResult) -> Performed
 pub fn put_on(
     s: State,
     process: u32,
-    key: u32,
+    key: u64,
     value: u32,
     timestamp: u32,
     draw: u16,
@@ -84,7 +84,7 @@ pub fn put_on(
     started(process, r)
 }
 
-pub fn get_on(s: State, process: u32, key: u32, nodes: &[u32], versions: &[u32]) -> Performed
+pub fn get_on(s: State, process: u32, key: u64, nodes: &[u32], versions: &[u32]) -> Performed
     ensures { λ r. ⌜ r ≡ started process (startGetOf s (take (s .lengths .nodes) (now (nodes .entry))) (take (s .lengths .versions) (now (versions .entry))) process key) ⌝ }
 {
     let n = held(nodes, s.lengths.nodes);
@@ -111,7 +111,7 @@ pub fn step_on(
     Performed { line, state }
 }
 
-pub fn look_on(s: State, key: u32, back: u32, nodes: &[u32], versions: &[u32]) -> Line
+pub fn look_on(s: State, key: u64, back: u32, nodes: &[u32], versions: &[u32]) -> Line
     ensures { λ r. ⌜ r ≡ lookLine key back (lookOf s (take (s .lengths .nodes) (now (nodes .entry))) (take (s .lengths .versions) (now (versions .entry))) key back) ⌝ }
 {
     let n = held(nodes, s.lengths.nodes);

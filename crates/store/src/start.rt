@@ -58,7 +58,7 @@ fn start(
     versions: &[u32],
     process: u32,
     kind: Kind,
-    key: u32,
+    key: u64,
     value: u32,
     timestamp: u32,
     top: u32,
@@ -101,7 +101,7 @@ pub fn start_put(
     nodes: &[u32],
     versions: &[u32],
     process: u32,
-    key: u32,
+    key: u64,
     value: u32,
     timestamp: u32,
     draw: u16,
@@ -122,7 +122,7 @@ pub fn start_put(
     )
 }
 
-pub fn start_get(s: State, nodes: &[u32], versions: &[u32], process: u32, key: u32) -> StartResult
+pub fn start_get(s: State, nodes: &[u32], versions: &[u32], process: u32, key: u64) -> StartResult
     ensures { λ r. ⌜ r ≡ startGetOf s (now (nodes .entry)) (now (versions .entry)) process key ⌝ }
 {
     start(s, nodes, versions, process, Kind::Get, key, 0, 0, 0)

@@ -7,6 +7,9 @@ ghost use lib.ListN.{length};
 ghost use Rattle.model.specs.Layout.{nodeWords, capacity, word, withWord, key, newest, top, next, lock, withNewest, withNext, withLock, nodeRecord, withNode};
 ghost use Rattle.model.specs.Phases.{ahead};
 ghost use Rattle.tables.specs.Room.{NodeRoom, LevelRoom, nodesIn};
+use model::halves::high_half;
+use model::halves::joined;
+use model::halves::low_half;
 use model::types::Ahead;
 
 // Word `field` of a node.
@@ -30,11 +33,13 @@ fn set_word(nodes: &mut [u32], node: u32, field: u32, to: u32)
     nodes[16 * x + f] = to;
 }
 
-pub fn key_at(nodes: &[u32], node: u32) -> u32
+pub fn key_at(nodes: &[u32], node: u32) -> u64
     requires { ⌜ NodeRoom (now nodes) node ⌝ }
     ensures { λ r. ⌜ r ≡ key (now (nodes .entry)) node ⌝ }
 {
-    word_at(nodes, node, 0)
+    let low = word_at(nodes, node, 0);
+    let high = word_at(nodes, node, 3);
+    joined(low, high)
 }
 
 pub fn newest_at(nodes: &[u32], node: u32) -> u32
@@ -87,14 +92,16 @@ pub fn set_lock(nodes: &mut [u32], level: u32, node: u32, holder: u32)
 }
 
 // The sixteen words of one node.
-fn fill_node(part: &mut [u32], key: u32, version: u32, top: u32, next: u32)
+fn fill_node(part: &mut [u32], key: u64, version: u32, top: u32, next: u32)
     requires { ⌜ length (now part) ≡ nodeWords ⌝ }
     ensures { λ r. ⌜ now (part .exit) ≡ nodeRecord key version top next ⌝ }
 {
-    part[0] = key;
+    let low = low_half(key);
+    let high = high_half(key);
+    part[0] = low;
     part[1] = version;
     part[2] = top;
-    part[3] = 0;
+    part[3] = high;
     part[4] = next;
     part[5] = 0;
     part[6] = 0;
@@ -110,7 +117,7 @@ fn fill_node(part: &mut [u32], key: u32, version: u32, top: u32, next: u32)
 }
 
 // A new node: its part of the table is lent to the writer of one node.
-pub fn write_node(nodes: &mut [u32], node: u32, key: u32, version: u32, top: u32, next: u32)
+pub fn write_node(nodes: &mut [u32], node: u32, key: u64, version: u32, top: u32, next: u32)
     requires { ⌜ NodeRoom (now nodes) node ⌝ }
     ensures { λ r. ⌜ now (nodes .exit) ≡ withNode (now (nodes .entry)) node key version top next ⌝ }
 {
@@ -130,7 +137,7 @@ pub fn nodes_full(nodes: &[u32], used: u32) -> bool
 }
 
 // Where the link of a node leads, against a key; `used` is the last node in use.
-pub fn ahead(nodes: &[u32], used: u32, level: u32, pred: u32, key: u32) -> Ahead
+pub fn ahead(nodes: &[u32], used: u32, level: u32, pred: u32, key: u64) -> Ahead
     requires { ⌜ LevelRoom (now nodes) level pred ⌝ }
     requires { ⌜ NodeRoom (now nodes) used ⌝ }
     ensures { λ r. ⌜ ((versions : List ℕ) (n : ℕ) → r ≡ ahead (nodesIn (now (nodes .entry)) used versions n) level pred key) ⌝ }

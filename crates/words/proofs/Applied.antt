@@ -24,7 +24,7 @@ spelt n w h =
 
 abbrev writtenOver : (w : List ℕ) → Process → (preds : List ℕ) → List ℕ
 writtenOver w p preds =
-    sets (sets (sets (sets w 0 (callWords (p .call))) 6 (cursorWords (p .cursor))) 10 (effectWords (p .effect))) 12 preds
+    sets (sets (sets (sets w 0 (callWords (p .call))) 7 (cursorWords (p .cursor))) 11 (effectWords (p .effect))) 13 preds
 
 pub over-written : (w : List ℕ) (p : Process) → length w ≡ sizes .process → length (p .preds) ≡ 6 → writtenOver w p
     (p .preds) ≡ processWords p
@@ -45,21 +45,21 @@ module _ (w : List ℕ) (long : length w ≡ sizes .process) (known : knownProce
   unfolding processAfter
   stays-waiting = same
 
-  pub goes : (c : Cursor) → sets w 6 (cursorWords c) ≡ processWords (processAfter tick (processFrom w) (Go c))
+  pub goes : (c : Cursor) → sets w 7 (cursorWords c) ≡ processWords (processAfter tick (processFrom w) (Go c))
   unfolding processAfter
-  goes c = ap (λ w. sets w 6 (cursorWords c)) same
+  goes c = ap (λ w. sets w 7 (cursorWords c)) same
 
   pub commits : (c : Cursor) (a : Answer)
-      → sets (sets w 6 (cursorWords c)) 10 (effectWords (record { answer = a; tick = tick })) ≡ processWords (processAfter tick
+      → sets (sets w 7 (cursorWords c)) 11 (effectWords (record { answer = a; tick = tick })) ≡ processWords (processAfter tick
       (processFrom w) (Commit c a))
   unfolding processAfter
-  commits c a = ap (λ w. sets (sets w 6 (cursorWords c)) 10 (effectWords (record { answer = a; tick = tick }))) same
+  commits c a = ap (λ w. sets (sets w 7 (cursorWords c)) 11 (effectWords (record { answer = a; tick = tick }))) same
 
   pub notes : (c : Cursor)
-      → sets (set w (12 + getD w 7 0) (getD w 8 0)) 6 (cursorWords c) ≡ processWords (processAfter tick (processFrom w) (Note c))
+      → sets (set w (13 + getD w 8 0) (getD w 9 0)) 7 (cursorWords c) ≡ processWords (processAfter tick (processFrom w) (Note c))
   unfolding processAfter
   notes c =
       let p = processFrom w in
-      ap (λ v. sets (set v (12 + getD w 7 0) (getD w 8 0)) 6 (cursorWords c)) same
-      ∙ ap (λ v. sets v 6 (cursorWords c)) (set-behind (callWords (p .call) ++ cursorWords (p .cursor) ++ effectWords (p .effect))
-      (p .preds) (getD w 7 0) (getD w 8 0))
+      ap (λ v. sets (set v (13 + getD w 8 0) (getD w 9 0)) 7 (cursorWords c)) same
+      ∙ ap (λ v. sets v 7 (cursorWords c)) (set-behind (callWords (p .call) ++ cursorWords (p .cursor) ++ effectWords (p .effect))
+      (p .preds) (getD w 8 0) (getD w 9 0))

@@ -16,12 +16,14 @@ use Rattle.model.specs.declared.types.Phase.the-variants.{Walk, Read, Seek, Loc
 use Rattle.model.specs.declared.types.Process.{Process}
 use Rattle.model.specs.declared.types.State.{State}
 use Rattle.model.specs.Choice.{if_then_else_}
-use Rattle.model.specs.Layout.{levels, limits}
+use Rattle.model.specs.Layout.{levels, limits, wordSize, lowHalf}
 use Rattle.model.specs.Numbers.{placeOf}
 use Rattle.model.specs.State.{noProcess}
 use Rattle.words.specs.Numbers.{kindNumber, kindOf, phaseNumber, phaseOf, answerOf}
 use Rattle.words.specs.Layout.{sizes, processWords, allWords, stateWords, processFrom, allFrom, stateFrom, knownProcess, allKnown, isState}
 use Rattle.permits.specs.Header.{bit}
+use Rattle.model.proofs.Words.{joined-halves}
+use borrow.Author.Tests.{lt-ltb}
 use Rattle.words.proofs.Applied.{spelt}
 use Rattle.words.proofs.Laws.{heads}
 
@@ -71,10 +73,15 @@ by-name p h = ap (λ preds. processWords (record { call = p .call; cursor = p .c
 pub process-from : (p : Process) → length (p .preds) ≡ levels → processFrom (processWords p) ≡ p
 process-from p h =
     ap processFrom (sym (by-name p h))
-    ∙ simp (kind-from (p .call .kind) .0, phase-from (p .cursor .phase) .0, answer-from (p .effect .answer) .0, spelt 6 (p .preds) h)
+    ∙ simp (joined-halves (p .call .key), kind-from (p .call .kind) .0, phase-from (p .cursor .phase) .0, answer-from (p .effect .answer) .0, spelt 6 (p .preds) h)
 
 process-known : (p : Process) → knownProcess (processWords p) ≡ true
-process-known p = simp (kind-from (p .call .kind) .1, phase-from (p .cursor .phase) .1, answer-from (p .effect .answer) .1)
+process-known p = simp (
+  lt-ltb (lowHalf (p .call .key)) wordSize (omega arith),
+  kind-from (p .call .kind) .1,
+  phase-from (p .cursor .phase) .1,
+  answer-from (p .effect .answer) .1,
+)
 
 -- ---- all processes
 

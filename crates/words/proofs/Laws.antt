@@ -11,8 +11,9 @@ use borrow.Author.Tests.{ltb-true, eqb-true, eqb-false}
 use Rattle.model.specs.declared.types.Counts.{Counts}
 use Rattle.model.specs.declared.types.Process.{Process}
 use Rattle.model.specs.Choice.{if_then_else_}
-use Rattle.model.specs.Layout.{limits}
+use Rattle.model.specs.Layout.{limits, wordSize}
 use Rattle.model.specs.Numbers.{placeOf}
+use Rattle.model.proofs.Words.{low-joined, high-joined}
 use Rattle.model.specs.State.{noProcess, processAt, withEvent}
 use Rattle.words.specs.Numbers.{kindNumber, kindOf, phaseNumber, phaseOf, answerOf}
 use Rattle.words.specs.Layout.{sizes, processWords, allWords, stateWords, processFrom, allFrom, stateFrom, knownProcess, allKnown, isState, startOf, part}
@@ -57,18 +58,27 @@ heads-are (suc k) at w h =
     drop-cons w at 0 (omega (arith, h))
     ∙ ap (λ r. getD w at 0 ∷ r) (heads-are k (suc at) w (omega (arith, h)) ∙ ap (λ n. heads k (suc at) w ++ drop n w) e)
 
-known-facts : (w : List ℕ) → knownProcess w ≡ true → (getD w 0 0 < 3) × (getD w 6 0 < 9) × (getD w 10 0 < 7)
+known-facts : (w : List ℕ) → knownProcess w ≡ true
+    → (getD w 1 0 < wordSize) × (getD w 0 0 < 3) × (getD w 7 0 < 9) × (getD w 11 0 < 7)
 known-facts w k =
-    let a = and-eq-true-iff (ltb (getD w 0 0) 3 && ltb (getD w 6 0) 9) (ltb (getD w 10 0) 7) .0 k in
-    let b = and-eq-true-iff (ltb (getD w 0 0) 3) (ltb (getD w 6 0) 9) .0 (a .0) in
-    (ltb-true _ _ (b .0), ltb-true _ _ (b .1), ltb-true _ _ (a .1))
+    let a = and-eq-true-iff (ltb (getD w 1 0) wordSize && ltb (getD w 0 0) 3 && ltb (getD w 7 0) 9) (ltb (getD w 11 0) 7) .0 k in
+    let b = and-eq-true-iff (ltb (getD w 1 0) wordSize && ltb (getD w 0 0) 3) (ltb (getD w 7 0) 9) .0 (a .0) in
+    let c = and-eq-true-iff (ltb (getD w 1 0) wordSize) (ltb (getD w 0 0) 3) .0 (b .0) in
+    (ltb-true _ _ (c .0), ltb-true _ _ (c .1), ltb-true _ _ (b .1), ltb-true _ _ (a .1))
 
 pub process-back : (w : List ℕ) → length w ≡ sizes .process → knownProcess w ≡ true → processWords (processFrom w) ≡ w
 process-back w h k =
     let f = known-facts w k in
-    let six : length (drop 12 w) ≤ 6 = rw length-drop (omega (arith, h)) in
-    simp (kind-back (getD w 0 0) (f .0), phase-back (getD w 6 0) (f .1), answer-back (getD w 10 0) (f .2), take-all 6 (drop 12 w) six)
-    (sym (heads-are 12 0 w (omega (arith, h))))
+    let six : length (drop 13 w) ≤ 6 = rw length-drop (omega (arith, h)) in
+    simp (
+      low-joined (getD w 1 0) (getD w 2 0) (f .0),
+      high-joined (getD w 1 0) (getD w 2 0) (f .0),
+      kind-back (getD w 0 0) (f .1),
+      phase-back (getD w 7 0) (f .2),
+      answer-back (getD w 11 0) (f .3),
+      take-all 6 (drop 13 w) six,
+    )
+    (sym (heads-are 13 0 w (omega (arith, h))))
 
 -- ---- all processes
 

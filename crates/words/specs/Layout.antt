@@ -1,5 +1,5 @@
 -- The state as words, and words as a state. Word 0 is the layout's own number; then whether the store is open, processes,
--- limit, events, lengths of both tables, nodes and versions in use; then eight processes of eighteen words each.
+-- limit, events, lengths of both tables, nodes and versions in use; then eight processes of nineteen words each.
 use Prim.Native.Nat.{ℕ, zero, suc, _+_, _*_}
 use mathlib.Core.Bool.{Bool, true, false, _&&_}
 use mathlib.Core.List.{List, [], _∷_, _++_}
@@ -12,7 +12,7 @@ use Rattle.model.specs.declared.types.Cursor.{Cursor}
 use Rattle.model.specs.declared.types.Effect.{Effect}
 use Rattle.model.specs.declared.types.Process.{Process}
 use Rattle.model.specs.Choice.{if_then_else_}
-use Rattle.model.specs.Layout.{levels, limits}
+use Rattle.model.specs.Layout.{levels, limits, wordSize, lowHalf, highHalf, joined}
 use Rattle.model.specs.Numbers.{placeOf}
 use Rattle.model.specs.State.{processAt}
 use Rattle.permits.specs.Header.{headerOf}
@@ -20,12 +20,12 @@ use Rattle.words.specs.declared.types.Sizes.{Sizes}
 use Rattle.words.specs.Numbers.{kindNumber, kinds, kindOf, phaseNumber, phases, phaseOf, answers, answerOf}
 
 abbrev pub sizes : Sizes
-sizes = record { version = 1; head = 9; process = 18; state = 153 }
+sizes = record { version = 2; head = 9; process = 19; state = 161 }
 
 -- ---- encode
 
 abbrev pub callWords : Call → List ℕ
-callWords c = kindNumber (c .kind) ∷ c .key ∷ c .value ∷ c .timestamp ∷ c .top ∷ c .start ∷ []
+callWords c = kindNumber (c .kind) ∷ lowHalf (c .key) ∷ highHalf (c .key) ∷ c .value ∷ c .timestamp ∷ c .top ∷ c .start ∷ []
 
 abbrev pub cursorWords : Cursor → List ℕ
 cursorWords c = phaseNumber (c .phase) ∷ c .level ∷ c .pred ∷ c .made ∷ []
@@ -52,15 +52,15 @@ abbrev pub processFrom : List ℕ → Process
 processFrom w = record {
   call = record {
     kind = kindOf (getD w 0 0);
-    key = getD w 1 0;
-    value = getD w 2 0;
-    timestamp = getD w 3 0;
-    top = getD w 4 0;
-    start = getD w 5 0;
+    key = joined (getD w 1 0) (getD w 2 0);
+    value = getD w 3 0;
+    timestamp = getD w 4 0;
+    top = getD w 5 0;
+    start = getD w 6 0;
   };
-  cursor = record { phase = phaseOf (getD w 6 0); level = getD w 7 0; pred = getD w 8 0; made = getD w 9 0 };
-  effect = record { answer = answerOf (getD w 10 0); tick = getD w 11 0 };
-  preds = take levels (drop 12 w);
+  cursor = record { phase = phaseOf (getD w 7 0); level = getD w 8 0; pred = getD w 9 0; made = getD w 10 0 };
+  effect = record { answer = answerOf (getD w 11 0); tick = getD w 12 0 };
+  preds = take levels (drop 13 w);
 }
 
 unfoldable pub allFrom : (n : ℕ) → List ℕ → List Process
@@ -80,8 +80,11 @@ stateFrom w = record {
 
 -- ---- words that are a state
 
+-- kind, phase and answer have a number. "All words are 32 bits.": so the low half of a key is told from the high one
 abbrev pub knownProcess : List ℕ → Bool
-knownProcess w = ltb (getD w 0 0) (length kinds) && ltb (getD w 6 0) (length phases) && ltb (getD w 10 0) (length answers)
+knownProcess w =
+    ltb (getD w 1 0) wordSize && ltb (getD w 0 0) (length kinds) && ltb (getD w 7 0) (length phases)
+    && ltb (getD w 11 0) (length answers)
 
 unfoldable pub allKnown : (n : ℕ) → List ℕ → Bool
 allKnown zero w = true

@@ -1,4 +1,4 @@
-// One process in its eighteen words.
+// One process in its nineteen words.
 ghost use mathlib.Core.Path.{_≡_};
 ghost use lib.ListN.{length};
 ghost use Rattle.words.specs.Layout.{sizes, callWords, cursorWords, effectWords, processWords, processFrom, knownProcess};
@@ -13,6 +13,9 @@ use crate::numbers::kind_number;
 use crate::numbers::kind_of;
 use crate::numbers::phase_number;
 use crate::numbers::phase_of;
+use model::halves::high_half;
+use model::halves::joined;
+use model::halves::low_half;
 use model::numbers::place_of;
 use model::types::Answer;
 use model::types::Call;
@@ -27,11 +30,11 @@ pub fn call_in(w: &[u32]) -> Call
 {
     Call {
         kind: kind_of(w[0]),
-        key: w[1],
-        value: w[2],
-        timestamp: w[3],
-        top: w[4],
-        start: w[5],
+        key: joined(w[1], w[2]),
+        value: w[3],
+        timestamp: w[4],
+        top: w[5],
+        start: w[6],
     }
 }
 
@@ -40,10 +43,10 @@ pub fn cursor_in(w: &[u32]) -> Cursor
     ensures { λ r. ⌜ r ≡ processFrom (now (w .entry)) .cursor ⌝ }
 {
     Cursor {
-        phase: phase_of(w[6]),
-        level: w[7],
-        pred: w[8],
-        made: w[9],
+        phase: phase_of(w[7]),
+        level: w[8],
+        pred: w[9],
+        made: w[10],
     }
 }
 
@@ -52,8 +55,8 @@ pub fn effect_in(w: &[u32]) -> Effect
     ensures { λ r. ⌜ r ≡ processFrom (now (w .entry)) .effect ⌝ }
 {
     Effect {
-        answer: answer_of(w[10]),
-        tick: w[11],
+        answer: answer_of(w[11]),
+        tick: w[12],
     }
 }
 
@@ -61,7 +64,7 @@ pub fn preds_in(w: &[u32]) -> [u32; 6]
     requires { ⌜ length (now w) ≡ sizes .process ⌝ }
     ensures { λ r. ⌜ r ≡ processFrom (now (w .entry)) .preds ⌝ }
 {
-    [w[12], w[13], w[14], w[15], w[16], w[17]]
+    [w[13], w[14], w[15], w[16], w[17], w[18]]
 }
 
 pub fn process_in(w: &[u32]) -> Process
@@ -80,6 +83,7 @@ pub fn process_in(w: &[u32]) -> Process
     }
 }
 
+// A word is a low half whatever it holds, so nothing of a key is tested.
 pub fn is_process(w: &[u32]) -> bool
     requires { ⌜ length (now w) ≡ sizes .process ⌝ }
     ensures { λ r. ⌜ r ≡ knownProcess (now (w .entry)) ⌝ }
@@ -87,14 +91,14 @@ pub fn is_process(w: &[u32]) -> bool
     if 2 < w[0] {
         return false;
     }
-    if 8 < w[6] {
+    if 8 < w[7] {
         return false;
     }
-    w[10] < 7
+    w[11] < 7
 }
 
 // A process by value in its words.
-pub fn words_of(p: Process) -> [u32; 18]
+pub fn words_of(p: Process) -> [u32; 19]
     ensures { λ r. ⌜ r ≡ processWords p ⌝ }
 {
     let call = p.call;
@@ -106,7 +110,8 @@ pub fn words_of(p: Process) -> [u32; 18]
     let preds = p.preds;
     [
         kind_number(kind),
-        call.key,
+        low_half(call.key),
+        high_half(call.key),
         call.value,
         call.timestamp,
         call.top,
@@ -130,21 +135,21 @@ pub fn words_of(p: Process) -> [u32; 18]
 // every step.
 pub fn put_cursor(w: &mut [u32], phase: Phase, level: u32, pred: u32, made: u32)
     requires { ⌜ length (now w) ≡ sizes .process ⌝ }
-    ensures { λ r. ⌜ now (w .exit) ≡ sets (now (w .entry)) 6 (cursorWords (record { phase = phase; level = level; pred = pred; made = made })) ⌝ }
+    ensures { λ r. ⌜ now (w .exit) ≡ sets (now (w .entry)) 7 (cursorWords (record { phase = phase; level = level; pred = pred; made = made })) ⌝ }
 {
-    w[6] = phase_number(phase);
-    w[7] = level;
-    w[8] = pred;
-    w[9] = made;
+    w[7] = phase_number(phase);
+    w[8] = level;
+    w[9] = pred;
+    w[10] = made;
 }
 
 pub fn put_effect(w: &mut [u32], e: Effect)
     requires { ⌜ length (now w) ≡ sizes .process ⌝ }
-    ensures { λ r. ⌜ now (w .exit) ≡ sets (now (w .entry)) 10 (effectWords e) ⌝ }
+    ensures { λ r. ⌜ now (w .exit) ≡ sets (now (w .entry)) 11 (effectWords e) ⌝ }
 {
     let answer = e.answer;
-    w[10] = place_of(answer);
-    w[11] = e.tick;
+    w[11] = place_of(answer);
+    w[12] = e.tick;
 }
 
 pub fn put_call(w: &mut [u32], c: Call)
@@ -153,23 +158,24 @@ pub fn put_call(w: &mut [u32], c: Call)
 {
     let kind = c.kind;
     w[0] = kind_number(kind);
-    w[1] = c.key;
-    w[2] = c.value;
-    w[3] = c.timestamp;
-    w[4] = c.top;
-    w[5] = c.start;
+    w[1] = low_half(c.key);
+    w[2] = high_half(c.key);
+    w[3] = c.value;
+    w[4] = c.timestamp;
+    w[5] = c.top;
+    w[6] = c.start;
 }
 
 fn put_preds(w: &mut [u32], preds: [u32; 6])
     requires { ⌜ length (now w) ≡ sizes .process ⌝ }
-    ensures { λ r. ⌜ now (w .exit) ≡ sets (now (w .entry)) 12 preds ⌝ }
+    ensures { λ r. ⌜ now (w .exit) ≡ sets (now (w .entry)) 13 preds ⌝ }
 {
-    w[12] = preds[0];
-    w[13] = preds[1];
-    w[14] = preds[2];
-    w[15] = preds[3];
-    w[16] = preds[4];
-    w[17] = preds[5];
+    w[13] = preds[0];
+    w[14] = preds[1];
+    w[15] = preds[2];
+    w[16] = preds[3];
+    w[17] = preds[4];
+    w[18] = preds[5];
 }
 
 pub fn put_process(w: &mut [u32], p: Process)
@@ -195,8 +201,8 @@ pub fn apply_note(w: &mut [u32], cursor: Cursor)
     requires { ⌜ processFrom (now w) .cursor .level ≤ topLevel ⌝ }
     ensures { λ r. ⌜ ((tick : ℕ) → now (w .exit) ≡ processWords (processAfter tick (processFrom (now (w .entry))) (Note cursor))) ⌝ }
 {
-    let at = 12 + w[7] as usize;
-    w[at] = w[8];
+    let at = 13 + w[8] as usize;
+    w[at] = w[9];
     let phase = cursor.phase;
     put_cursor(w, phase, cursor.level, cursor.pred, cursor.made);
 }

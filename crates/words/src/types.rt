@@ -11,13 +11,13 @@ pub struct Sizes {
 
 impl Sizes {
     // The layout's own number, word 0. Another layout has another.
-    pub const VERSION: u32 = 1;
+    pub const VERSION: u32 = 2;
     // Words before the first process.
     pub const HEAD: usize = 9;
 
-    pub const PROCESS: usize = 18;
+    pub const PROCESS: usize = 19;
 
-    pub const STATE: usize = 153;
+    pub const STATE: usize = 161;
 
     pub fn words() -> Self
         ensures { λ r. ⌜ r ≡ sizes ⌝ }

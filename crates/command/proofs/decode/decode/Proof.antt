@@ -1,9 +1,10 @@
--- Each answer follows from the byte that the match chose and the test of its width.
-use mathlib.Core.Path.{refl}
+-- The byte that the match chose says what stands behind it.
+use Prim.Native.Nat.{_+_}
+use mathlib.Core.Path.{_∙_, refl}
 use native.Mathlib.Omega.{arith}
 use borrow.Author.Tests.{ne-eqb}
-use Rattle.command.specs.Commands.{openForm, putForm, getForm, stepForm, lookForm, inspectForm, codeFrom}
-use Rattle.command.proofs.Decoding.{no-byte, byte-at, short-at, whole-at}
+use Rattle.command.specs.Commands.{inspectForm, codeFrom}
+use Rattle.command.proofs.Decoding.{no-byte, byte-at, form-at, whole-from}
 use borrow.Author.Needs.{needs}
 use Rattle.command.proofs.decode.decode.Statement.{statement}
 use Rattle.command.proofs.decode.decode.Tie as tie
@@ -17,74 +18,75 @@ shared-slice-read-code c = search needs
 add-from : tie.Need-add-from
 add-from c = search needs
 
-sub-left : tie.Need-sub-left
-sub-left c = search needs
+open-from-requires : tie.Need-open-from-requires
+open-from-requires c κs = search needs
 
-open-at-requires : tie.Need-open-at-requires
-open-at-requires c κs = search needs
+put-from-requires : tie.Need-put-from-requires
+put-from-requires c κs = search needs
 
-put-at-requires : tie.Need-put-at-requires
-put-at-requires c κs = search needs
+get-from-requires : tie.Need-get-from-requires
+get-from-requires c κs = search needs
 
-get-at-requires : tie.Need-get-at-requires
-get-at-requires c κs = search needs
+step-from-requires : tie.Need-step-from-requires
+step-from-requires c κs = search needs
 
-step-at-requires : tie.Need-step-at-requires
-step-at-requires c κs = search needs
+look-from-requires : tie.Need-look-from-requires
+look-from-requires c κs = search needs
 
-look-at-requires : tie.Need-look-at-requires
-look-at-requires c κs = search needs
+put-from-requires-2 : tie.Need-put-from-requires-2
+put-from-requires-2 c κs = search needs
+
+get-from-requires-2 : tie.Need-get-from-requires-2
+get-from-requires-2 c κs = search needs
+
+look-from-requires-2 : tie.Need-look-from-requires-2
+look-from-requires-2 c κs = search needs
 
 returns-2 : tie.Need-returns-2
 unfolding codeFrom
-returns-2 c = short-at _ _ (c .before .before .before .if1 .left) openForm (λ rest. refl) (c .before .match .keys1) (c .if2 .taken)
+returns-2 c = c .open-from .ensures ∙ form-at _ _ (c .before .before .before .if1 .left) _ _ (λ rest. refl) (c .before .match .keys1)
 
 returns-3 : tie.Need-returns-3
 unfolding codeFrom
-returns-3 c = rw (c .open-at .ensures) (whole-at _ _ (c .before .before .before .before .if1 .left) openForm (λ rest. refl) (c .before .before .match .keys1) (c .before .if2 .left))
+returns-3 c = c .put-from .ensures ∙ form-at _ _ (c .before .before .before .if1 .left) _ _ (λ rest. refl) (c .before .match .keys2)
 
 returns-4 : tie.Need-returns-4
 unfolding codeFrom
-returns-4 c = short-at _ _ (c .before .before .before .if1 .left) putForm (λ rest. refl) (c .before .match .keys2) (c .if3 .taken)
+returns-4 c = c .get-from .ensures ∙ form-at _ _ (c .before .before .before .if1 .left) _ _ (λ rest. refl) (c .before .match .keys3)
 
 returns-5 : tie.Need-returns-5
 unfolding codeFrom
-returns-5 c = rw (c .put-at .ensures) (whole-at _ _ (c .before .before .before .before .if1 .left) putForm (λ rest. refl) (c .before .before .match .keys2) (c .before .if3 .left))
+returns-5 c = c .step-from .ensures ∙ form-at _ _ (c .before .before .before .if1 .left) _ _ (λ rest. refl) (c .before .match .keys4)
 
 returns-6 : tie.Need-returns-6
 unfolding codeFrom
-returns-6 c = short-at _ _ (c .before .before .before .if1 .left) getForm (λ rest. refl) (c .before .match .keys3) (c .if4 .taken)
+returns-6 c = c .look-from .ensures ∙ form-at _ _ (c .before .before .before .if1 .left) _ _ (λ rest. refl) (c .before .match .keys5)
 
 returns-7 : tie.Need-returns-7
 unfolding codeFrom
-returns-7 c = rw (c .get-at .ensures) (whole-at _ _ (c .before .before .before .before .if1 .left) getForm (λ rest. refl) (c .before .before .match .keys3) (c .before .if4 .left))
+returns-7 c =
+    let a = c .before .before .before .before .args in
+    whole-from inspectForm (a .bytes .now) (a .at + 1) 0 refl (omega arith) _ _ refl refl
+    ∙ form-at (a .bytes .now) (a .at) (c .before .before .if1 .left) inspectForm _ (λ rest. refl) (c .match .keys6)
 
 returns-8 : tie.Need-returns-8
 unfolding codeFrom
-returns-8 c = short-at _ _ (c .before .before .before .if1 .left) stepForm (λ rest. refl) (c .before .match .keys4) (c .if5 .taken)
+returns-8 c = c .put-from2 .ensures ∙ form-at _ _ (c .before .before .before .if1 .left) _ _ (λ rest. refl) (c .before .match .keys7)
 
 returns-9 : tie.Need-returns-9
 unfolding codeFrom
-returns-9 c = rw (c .step-at .ensures) (whole-at _ _ (c .before .before .before .before .if1 .left) stepForm (λ rest. refl) (c .before .before .match .keys4) (c .before .if5 .left))
+returns-9 c = c .get-from2 .ensures ∙ form-at _ _ (c .before .before .before .if1 .left) _ _ (λ rest. refl) (c .before .match .keys8)
 
 returns-10 : tie.Need-returns-10
 unfolding codeFrom
-returns-10 c = short-at _ _ (c .before .before .before .if1 .left) lookForm (λ rest. refl) (c .before .match .keys5) (c .if6 .taken)
+returns-10 c = c .look-from2 .ensures ∙ form-at _ _ (c .before .before .before .if1 .left) _ _ (λ rest. refl) (c .before .match .keys9)
 
 returns-11 : tie.Need-returns-11
 unfolding codeFrom
-returns-11 c = rw (c .look-at .ensures) (whole-at _ _ (c .before .before .before .before .if1 .left) lookForm (λ rest. refl) (c .before .before .match .keys5) (c .before .if6 .left))
-
-returns-12 : tie.Need-returns-12
-unfolding codeFrom
-returns-12 c = whole-at _ _ (c .before .before .if1 .left) inspectForm (λ rest. refl) (c .match .keys6) (omega arith)
-
-returns-13 : tie.Need-returns-13
-unfolding codeFrom
-returns-13 c =
+returns-11 c =
     let h = c .match .rest in
     let a = c .before .before .before .before .args in
-    simp (byte-at (a .bytes .now) (a .at) (c .before .before .if1 .left), ne-eqb _ _ (h .0 .0 .0 .0 .0 .1), ne-eqb _ _ (h .0 .0 .0 .0 .1), ne-eqb _ _ (h .0 .0 .0 .1), ne-eqb _ _ (h .0 .0 .1), ne-eqb _ _ (h .0 .1), ne-eqb _ _ (h .1))
+    simp (byte-at (a .bytes .now) (a .at) (c .before .before .if1 .left), ne-eqb _ _ (h .0 .0 .0 .0 .0 .0 .0 .0 .1), ne-eqb _ _ (h .0 .0 .0 .0 .0 .0 .0 .1), ne-eqb _ _ (h .0 .0 .0 .0 .0 .0 .1), ne-eqb _ _ (h .0 .0 .0 .0 .0 .1), ne-eqb _ _ (h .0 .0 .0 .0 .1), ne-eqb _ _ (h .0 .0 .0 .1), ne-eqb _ _ (h .0 .0 .1), ne-eqb _ _ (h .0 .1), ne-eqb _ _ (h .1))
 
 pub decode-spec : {M : Type 1} → statement M
 decode-spec =
@@ -93,12 +95,14 @@ decode-spec =
     returns
     shared-slice-read-code
     add-from
-    sub-left
-    open-at-requires
-    put-at-requires
-    get-at-requires
-    step-at-requires
-    look-at-requires
+    open-from-requires
+    put-from-requires
+    get-from-requires
+    step-from-requires
+    look-from-requires
+    put-from-requires-2
+    get-from-requires-2
+    look-from-requires-2
     returns-2
     returns-3
     returns-4
@@ -108,6 +112,4 @@ decode-spec =
     returns-8
     returns-9
     returns-10
-    returns-11
-    returns-12
-    returns-13)
+    returns-11)

@@ -9,11 +9,11 @@ use Rattle.command.proofs.decode.get_at.Tie as tie
 number-requires : tie.Need-number-requires
 number-requires c κs = search needs
 
-add-number : tie.Need-add-number
-add-number c = search needs
+add-wide-number : tie.Need-add-wide-number
+add-wide-number c = search needs
 
-number-requires-2 : tie.Need-number-requires-2
-number-requires-2 c κs = search needs
+wide-number-requires : tie.Need-wide-number-requires
+wide-number-requires c κs = search needs
 
 returns : tie.Need-returns
 returns c =
@@ -22,4 +22,4 @@ returns c =
     cc (skip l (a .at) 1 (a .at + 1) (omega arith))
 
 pub get-at-spec : {M : Type 1} → statement M
-get-at-spec = tie.close (tie.spec number-requires add-number number-requires-2 returns)
+get-at-spec = tie.close (tie.spec number-requires add-wide-number wide-number-requires returns)

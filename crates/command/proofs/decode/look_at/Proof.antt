@@ -6,20 +6,20 @@ use borrow.Author.Needs.{needs}
 use Rattle.command.proofs.decode.look_at.Statement.{statement}
 use Rattle.command.proofs.decode.look_at.Tie as tie
 
-number-requires : tie.Need-number-requires
-number-requires c κs = search needs
+wide-number-requires : tie.Need-wide-number-requires
+wide-number-requires c κs = search needs
 
 add-number : tie.Need-add-number
 add-number c = search needs
 
-number-requires-2 : tie.Need-number-requires-2
-number-requires-2 c κs = search needs
+number-requires : tie.Need-number-requires
+number-requires c κs = search needs
 
 returns : tie.Need-returns
 returns c =
     let a = c .before .before .before .args in
     let l = a .bytes .now in
-    cc (skip l (a .at) 4 (a .at + 4) (omega arith))
+    cc (skip l (a .at) (a .wide) (a .at + a .wide) (omega arith))
 
 pub look-at-spec : {M : Type 1} → statement M
-look-at-spec = tie.close (tie.spec number-requires add-number number-requires-2 returns)
+look-at-spec = tie.close (tie.spec wide-number-requires add-number number-requires returns)

@@ -9,6 +9,9 @@ enum-known-line c = search needs
 slice-aggregate-put-four : tie.Need-slice-aggregate-put-four
 slice-aggregate-put-four c = search needs
 
+cast-put-four : tie.Need-cast-put-four
+cast-put-four c = search needs
+
 put-four-requires : tie.Need-put-four-requires
 put-four-requires c κs = search needs
 
@@ -150,6 +153,7 @@ put-line-spec =
     (tie.spec
     enum-known-line
     slice-aggregate-put-four
+    cast-put-four
     put-four-requires
     enum-known-line-2
     slice-aggregate-put-two

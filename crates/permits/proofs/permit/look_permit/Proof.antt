@@ -7,8 +7,8 @@ use Rattle.permits.proofs.permit.look_permit.Tie as tie
 lawful-store-requires : tie.Need-lawful-store-requires
 lawful-store-requires c κs = search needs
 
-within-requires : tie.Need-within-requires
-within-requires c κs = search needs
+lawful-key-requires : tie.Need-lawful-key-requires
+lawful-key-requires c κs = search needs
 
 deny-unless-requires : tie.Need-deny-unless-requires
 deny-unless-requires c κs = search needs
@@ -23,7 +23,7 @@ returns c =
     simp (
       c .deny-unless2 .ensures,
       c .before .deny-unless .ensures,
-      c .before .before .within .ensures,
+      c .before .before .lawful-key .ensures,
       c .before .before .before .lawful-store .ensures s e,
     )
 
@@ -32,7 +32,7 @@ look-permit-spec =
     tie.close
     (tie.spec
     lawful-store-requires
-    within-requires
+    lawful-key-requires
     deny-unless-requires
     deny-unless-requires-2
     returns)

@@ -13,8 +13,8 @@ lawful-store-requires c κs = search needs
 shared-slice-read-no-process : tie.Need-shared-slice-read-no-process
 shared-slice-read-no-process c = search needs
 
-within-requires : tie.Need-within-requires
-within-requires c κs = search needs
+lawful-key-requires : tie.Need-lawful-key-requires
+lawful-key-requires c κs = search needs
 
 is-idle-requires : tie.Need-is-idle-requires
 is-idle-requires c κs = search needs
@@ -53,7 +53,7 @@ returns c =
       c .before .before .before .deny-unless .ensures,
       c .before .before .before .before .deny-if .ensures,
       c .before .before .before .before .before .before .before .is-idle .ensures,
-      c .before .before .before .before .before .before .before .before .within .ensures,
+      c .before .before .before .before .before .before .before .before .lawful-key .ensures,
       c .before .before .before .before .before .before .before .before .before .before .lawful-store .ensures s (e .same),
       ap (λ h. leb (getD h 1 0) (a .process)) (e .same),
       ap (λ h. leb (getD h 2 0) (getD h 3 0)) (e .same),
@@ -65,7 +65,7 @@ start-permit-spec =
     (tie.spec
     lawful-store-requires
     shared-slice-read-no-process
-    within-requires
+    lawful-key-requires
     is-idle-requires
     shared-slice-read-spent
     shared-slice-read-spent-2

@@ -7,6 +7,12 @@ use borrow.Author.Needs.{needs}
 use Rattle.tables.proofs.nodes.fill_node.Statement.{statement}
 use Rattle.tables.proofs.nodes.fill_node.Tie as tie
 
+low-half-requires : tie.Need-low-half-requires
+low-half-requires c κs = search needs
+
+high-half-requires : tie.Need-high-half-requires
+high-half-requires c κs = search needs
+
 slice-write-part : tie.Need-slice-write-part
 slice-write-part c = search needs
 
@@ -59,12 +65,17 @@ same-length : tie.Need-same-length
 same-length c = search needs
 
 returns : tie.Need-returns
-returns c = let a = c .args in written-over (a .part .now) (nodeRecord (a .key) (a .version) (a .top) (a .next)) (c .pre)
+returns c =
+    let a = c .before .before .before .args in
+    simp (c .before .low-half .ensures, c .high-half .ensures)
+    (written-over (a .part .now) (nodeRecord (a .key) (a .version) (a .top) (a .next)) (c .before .before .before .pre))
 
 pub fill-node-spec : {M : Type 1} → statement M
 fill-node-spec =
     tie.close
     (tie.spec
+    low-half-requires
+    high-half-requires
     slice-write-part
     slice-write-part-2
     slice-write-part-3

@@ -31,7 +31,7 @@ put-cursor-requires c κs = search needs
 same-length : tie.Need-same-length
 same-length c =
     let w = c .before .before .before .before .before .before .before .args .w .now in
-    c .before .before .put-cursor .kept .0 ∙ length-set w (12 + getD w 7 0) (getD w 8 0)
+    c .before .before .put-cursor .kept .0 ∙ length-set w (13 + getD w 8 0) (getD w 9 0)
 
 returns : tie.Need-returns
 returns c tick =

@@ -1,4 +1,4 @@
--- Word by word.
+-- Word by word, the key of its two.
 use borrow.Author.Needs.{needs}
 use Rattle.words.proofs.process.call_in.Statement.{statement}
 use Rattle.words.proofs.process.call_in.Tie as tie
@@ -9,23 +9,29 @@ shared-slice-read-kind-of c = search needs
 kind-of-requires : tie.Need-kind-of-requires
 kind-of-requires c κs = search needs
 
-shared-slice-read-t6 : tie.Need-shared-slice-read-t6
-shared-slice-read-t6 c = search needs
+shared-slice-read-joined : tie.Need-shared-slice-read-joined
+shared-slice-read-joined c = search needs
 
-shared-slice-read-t8 : tie.Need-shared-slice-read-t8
-shared-slice-read-t8 c = search needs
+shared-slice-read-joined-2 : tie.Need-shared-slice-read-joined-2
+shared-slice-read-joined-2 c = search needs
 
-shared-slice-read-t10 : tie.Need-shared-slice-read-t10
-shared-slice-read-t10 c = search needs
+joined-requires : tie.Need-joined-requires
+joined-requires c κs = search needs
 
-shared-slice-read-t12 : tie.Need-shared-slice-read-t12
-shared-slice-read-t12 c = search needs
+shared-slice-read-t11 : tie.Need-shared-slice-read-t11
+shared-slice-read-t11 c = search needs
 
-shared-slice-read-t14 : tie.Need-shared-slice-read-t14
-shared-slice-read-t14 c = search needs
+shared-slice-read-t13 : tie.Need-shared-slice-read-t13
+shared-slice-read-t13 c = search needs
+
+shared-slice-read-t15 : tie.Need-shared-slice-read-t15
+shared-slice-read-t15 c = search needs
+
+shared-slice-read-t17 : tie.Need-shared-slice-read-t17
+shared-slice-read-t17 c = search needs
 
 returns : tie.Need-returns
-returns c = simp (c .before .before .before .before .before .kind-of .ensures)
+returns c = simp (c .before .before .before .before .before .before .before .kind-of .ensures, c .before .before .before .before .joined .ensures)
 
 pub call-in-spec : {M : Type 1} → statement M
 call-in-spec =
@@ -33,9 +39,11 @@ call-in-spec =
     (tie.spec
     shared-slice-read-kind-of
     kind-of-requires
-    shared-slice-read-t6
-    shared-slice-read-t8
-    shared-slice-read-t10
-    shared-slice-read-t12
-    shared-slice-read-t14
+    shared-slice-read-joined
+    shared-slice-read-joined-2
+    joined-requires
+    shared-slice-read-t11
+    shared-slice-read-t13
+    shared-slice-read-t15
+    shared-slice-read-t17
     returns)

@@ -29,12 +29,12 @@ returns c =
     let w = a .args .w .now in
     let h = a .pre in
     simp (
-      drop-cons w 12 0 (omega arith),
       drop-cons w 13 0 (omega arith),
       drop-cons w 14 0 (omega arith),
       drop-cons w 15 0 (omega arith),
       drop-cons w 16 0 (omega arith),
       drop-cons w 17 0 (omega arith),
+      drop-cons w 18 0 (omega arith),
     )
 
 pub preds-in-spec : {M : Type 1} → statement M

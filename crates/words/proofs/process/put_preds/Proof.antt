@@ -50,7 +50,7 @@ same-length c = simp length-set
 returns : tie.Need-returns
 returns c =
     let six : length (c .args .t2) ≡ 6 = search needs in
-    ap (sets (c .args .w .now) 12) (spelt 6 (c .args .t2) six)
+    ap (sets (c .args .w .now) 13) (spelt 6 (c .args .t2) six)
 
 pub put-preds-spec : {M : Type 1} → statement M
 put-preds-spec =
