@@ -2,7 +2,7 @@
  * The tray store: readings of egg trays, shared by the stations of a grading line, one small step at a time.
  *
  * Terms
- *   tray      a number, 1 to 4,294,967,294
+ *   tray      a number of 64 bits, 1 to 18,446,744,073,709,551,614; the lent words hold it as two halves, see TRAY_NUMBER
  *   reading   a value and a stamp, both any 32-bit number; a tray's readings are kept newest first. Their meaning is
  *             the caller's. Stamps are compared as unsigned numbers and do not wrap.
  *   station   a number from 0, below the count given at opening; it has one call at most at a time
@@ -40,13 +40,13 @@ extern "C" {
 
 /* ---- Sizes and limits ------------------------------------------------------------------------------------------- */
 
-#define TRAY_VERSION 1u              /* the number of the state's layout, word 0 of every state */
+#define TRAY_VERSION 2u              /* the number of the layout, word 0 of every state; layout 1 had trays of 32 bits */
 
-#define TRAY_STATE_WORDS 153u        /* words of a state */
+#define TRAY_STATE_WORDS 161u        /* words of a state */
 #define TRAY_TALLY_WORDS 7u          /* words of a tally, one for each answer */
 #define TRAY_WORDS_PER_NODE 16u
 #define TRAY_WORDS_PER_READING 3u
-#define TRAY_WORDS_PER_STATION 18u
+#define TRAY_WORDS_PER_STATION 19u
 
 /* Words of the tables, for static arrays. The count is not tested here: tray_open refuses what is out of range. */
 #define TRAY_NODE_WORDS(trays) (TRAY_WORDS_PER_NODE * ((trays) + 1u))
@@ -56,11 +56,13 @@ extern "C" {
 #define TRAY_MAX_READINGS 4095u      /* V is 1 to this: a reading table of 6 to 12,288 words, a multiple of 3 */
 #define TRAY_MAX_STATIONS 8u         /* stations are 1 to this */
 #define TRAY_MAX_EVENTS 1000000000u  /* the event limit is 1 to this */
-#define TRAY_FIRST_TRAY 1u           /* tray numbers are this .. */
-#define TRAY_LAST_TRAY 4294967294u   /* .. to this */
 #define TRAY_TOP_LEVEL 5u            /* levels are 0 to this */
 #define TRAY_LEVELS 6u
 #define TRAY_MAX_COUNT 4294967295u   /* a count of the tally that has come here stays here */
+
+/* Tray numbers are the first of these to the last, as uint64_t. */
+#define TRAY_FIRST_TRAY UINT64_C(1)
+#define TRAY_LAST_TRAY UINT64_C(18446744073709551614)
 
 /* ---- Numbers ---------------------------------------------------------------------------------------------------- */
 
@@ -74,19 +76,19 @@ extern "C" {
  *  3 STATION_COUNT   stations not 1 to 8
  *  4 EVENT_LIMIT     event limit not 1 to 1,000,000,000
  *  5 NO_STATION      station number not below the store's count of stations
- *  6 BAD_TRAY        tray number 0 or 4,294,967,295
+ *  6 BAD_TRAY        tray number 0 or 18,446,744,073,709,551,615
  *  7 BUSY            a start at a station that has a call; an inspection while any station below the count has one
  *  8 NO_CALL         a step of a station that has no call
  *  9 SPENT           the count of events has come to the event limit
  * 10 CORRUPT         the words lent are no open state, or do not go together. One of these:
- *                      state_words is not 153, or word 0 is not 1, or word 1 is not 1 (0: closed);
+ *                      state_words is not 161, or word 0 is not 2, or word 1 is not 1 (0: closed);
  *                      a kind above 2, a phase above 8 or an answer above 6 in the words of any of the eight stations,
  *                      whatever the count of stations (at a step: in those of the station stepped alone);
  *                      stations, event limit, a table's length, trays made (above K) or readings held (above V) outside
  *                      the limits above, or events above the event limit;
  *                      a table's length in the state unlike the length lent (not at standing, which is lent none);
  *                      at a step, tally_words is not 7.
- *                    At tray_open: state_words is not 153.
+ *                    At tray_open: state_words is not 161.
  * 11 DAMAGED         the memory that the call met was altered.
  *                    At any step: a level above 5; a node p that is not in use; a get outside walk and read; a put in
  *                      read; a get with an effect tick; a put at release, or with an effect tick, whose answer no put
@@ -165,10 +167,14 @@ enum tray_inspection {
 /*
  * For reading, by a debugger or a display. Only the calls below write them.
  *
- * State: nine words, then 18 words for each of eight stations, those not below the count included.
+ * A tray number takes two words of a station and two of a node, its low and its high half: low + 2^32 * high. Numbers up to
+ * 4,294,967,295 have a high half of 0. TRAY_NUMBER puts the halves together.
  */
+#define TRAY_NUMBER(low, high) ((uint64_t)(high) << 32 | (uint32_t)(low))
+
+/* State: nine words, then 19 words for each of eight stations, those not below the count included. */
 enum tray_state_word {
-    TRAY_STATE_VERSION = 0,        /* 1 */
+    TRAY_STATE_VERSION = 0,        /* 2 */
     TRAY_STATE_OPENED = 1,         /* 1; 0 in a closed state */
     TRAY_STATE_STATIONS = 2,       /* as given at opening */
     TRAY_STATE_LIMIT = 3,          /* as given at opening */
@@ -186,18 +192,19 @@ enum tray_state_word {
 /* A station without a call has TRAY_ANSWER_NONE (6) as its answer and 0 in its other words. */
 enum tray_station_word {
     TRAY_STATION_KIND = 0,         /* enum tray_kind */
-    TRAY_STATION_TRAY = 1,         /* what the start was given; value and stamp are 0 for a get */
-    TRAY_STATION_VALUE = 2,
-    TRAY_STATION_STAMP = 3,
-    TRAY_STATION_TOP = 4,          /* top level, from the draw; 0 for a get */
-    TRAY_STATION_START = 5,        /* tick of the start */
-    TRAY_STATION_PHASE = 6,        /* enum tray_phase */
-    TRAY_STATION_LEVEL = 7,        /* level L */
-    TRAY_STATION_NODE = 8,         /* node p */
-    TRAY_STATION_NEW_NODE = 9,     /* the node that this put made; 0 before */
-    TRAY_STATION_ANSWER = 10,      /* enum tray_answer: a put's from its effect on; TRAY_ANSWER_NONE before */
-    TRAY_STATION_EFFECT = 11,      /* tick of the effect; 0 before */
-    TRAY_STATION_REMEMBERED = 12   /* and 13 to 17: the node remembered at levels 0 to 5 */
+    TRAY_STATION_TRAY_LOW = 1,     /* what the start was given, from here to the stamp; value and stamp are 0 for a get */
+    TRAY_STATION_TRAY_HIGH = 2,
+    TRAY_STATION_VALUE = 3,
+    TRAY_STATION_STAMP = 4,
+    TRAY_STATION_TOP = 5,          /* top level, from the draw; 0 for a get */
+    TRAY_STATION_START = 6,        /* tick of the start */
+    TRAY_STATION_PHASE = 7,        /* enum tray_phase */
+    TRAY_STATION_LEVEL = 8,        /* level L */
+    TRAY_STATION_NODE = 9,         /* node p */
+    TRAY_STATION_NEW_NODE = 10,    /* the node that this put made; 0 before */
+    TRAY_STATION_ANSWER = 11,      /* enum tray_answer: a put's from its effect on; TRAY_ANSWER_NONE before */
+    TRAY_STATION_EFFECT = 12,      /* tick of the effect; 0 before */
+    TRAY_STATION_REMEMBERED = 13   /* and 14 to 18: the node remembered at levels 0 to 5 */
 };
 
 /*
@@ -205,10 +212,10 @@ enum tray_station_word {
  * top level 5. Trays are nodes 1, 2 and so on in the order of making. Along the links of a level tray numbers rise.
  */
 enum tray_node_word {
-    TRAY_NODE_TRAY = 0,            /* tray number */
+    TRAY_NODE_TRAY_LOW = 0,        /* tray number, low half */
     TRAY_NODE_NEWEST = 1,          /* place of the newest reading */
     TRAY_NODE_TOP = 2,             /* top level */
-    TRAY_NODE_ZERO = 3,            /* 0 */
+    TRAY_NODE_TRAY_HIGH = 3,       /* tray number, high half */
     TRAY_NODE_LINKS = 4,           /* words 4 to 9: the next node at levels 0 to 5; 0 is the end */
     TRAY_NODE_LOCKS = 10           /* words 10 to 15: the locks of levels 0 to 5; 0 is free, else the holder's number + 1 */
 };
@@ -228,8 +235,8 @@ enum tray_reading_word {
 /* ---- Sizes, asked of the library -------------------------------------------------------------------------------- */
 
 /* For a caller that compares its header with the library it is linked with, or takes its sizes at run time. */
-uint32_t tray_version(void);                     /* TRAY_VERSION: 1 */
-size_t tray_state_words(void);                   /* TRAY_STATE_WORDS: 153 */
+uint32_t tray_version(void);                     /* TRAY_VERSION: 2 */
+size_t tray_state_words(void);                   /* TRAY_STATE_WORDS: 161 */
 size_t tray_tally_words(void);                   /* TRAY_TALLY_WORDS: 7 */
 size_t tray_node_words(uint32_t trays);          /* 16 * (trays + 1); 0 where trays is not 1 to 1023 */
 size_t tray_reading_words(uint32_t readings);    /* 3 * (readings + 1); 0 where readings is not 1 to 4095 */
@@ -242,7 +249,7 @@ size_t tray_reading_words(uint32_t readings);    /* 3 * (readings + 1); 0 where 
  *
  * Changes: all of the state; both tables are zeroed and word 2 of node 0 set to 5. What the buffers held is gone.
  * Refusals, in order: 10, 1, 2, 3, 4. Refused 10, nothing changes. Refused 1 to 4, both tables stay as they were and
- * the state becomes a closed one, which every other call refuses with 10: word 0 is 1, each station's answer 6, all
+ * the state becomes a closed one, which every other call refuses with 10: word 0 is 2, each station's answer 6, all
  * else 0.
  * Time: by the lengths of the tables.
  */
@@ -259,14 +266,14 @@ uint32_t tray_open(uint32_t *state, size_t state_words, uint32_t *nodes, size_t 
  * Refusals, in order: 10, 5, 6, 7, 9.
  */
 uint32_t tray_start_put(uint32_t *state, size_t state_words, const uint32_t *nodes, size_t node_words,
-                        const uint32_t *readings, size_t reading_words, uint32_t station, uint32_t tray,
+                        const uint32_t *readings, size_t reading_words, uint32_t station, uint64_t tray,
                         uint32_t value, uint32_t stamp, uint16_t draw, uint32_t *tick);
 
 /*
  * Starts a get of the newest reading of `tray`, for `station`. All else is as with tray_start_put.
  */
 uint32_t tray_start_get(uint32_t *state, size_t state_words, const uint32_t *nodes, size_t node_words,
-                        const uint32_t *readings, size_t reading_words, uint32_t station, uint32_t tray,
+                        const uint32_t *readings, size_t reading_words, uint32_t station, uint64_t tray,
                         uint32_t *tick);
 
 /*
@@ -305,7 +312,7 @@ enum tray_step_word {
  * Time: by the trays made, and by `back`, at most the readings held.
  */
 uint32_t tray_look(const uint32_t *state, size_t state_words, const uint32_t *nodes, size_t node_words,
-                   const uint32_t *readings, size_t reading_words, uint32_t tray, uint32_t back,
+                   const uint32_t *readings, size_t reading_words, uint64_t tray, uint32_t back,
                    uint32_t answer[2]);
 
 enum tray_look_word {
