@@ -5,7 +5,7 @@
 #include <string.h>
 
 enum { LEVELS = 6, TOP = LEVELS - 1, PROCESSES = 8, NODE_WORDS = 16, VERSION_WORDS = 3 };
-enum { MAX_KEYS = 1023, MAX_VERSIONS = 4095, MAX_LIMIT = 1000000000, LAYOUT = 1 };
+enum { MAX_KEYS = 1023, MAX_VERSIONS = 4095, MAX_LIMIT = 1000000000, LAYOUT = 2 };
 
 typedef enum { IDLE, PUT, GET, KINDS } Kind;
 typedef enum { WALK, READ, SEEK, LOCK, CHECK, UPDATE, MAKE, LINK, RELEASE, PHASES } Phase;
@@ -18,7 +18,7 @@ typedef enum {
 } Refusal;
 
 typedef struct {
-    uint32_t kind, key, value, timestamp, top, start;
+    uint32_t kind, key_low, key_high, value, timestamp, top, start;
     uint32_t phase, level, pred, made;
     uint32_t answer, effect;
     uint32_t preds[LEVELS];
@@ -30,14 +30,20 @@ typedef struct {
     Process process[PROCESSES];
 } State;
 
-typedef struct { uint32_t key, newest, top, zero, next[LEVELS], lock[LEVELS]; } Node;
+typedef struct { uint32_t key_low, newest, top, key_high, next[LEVELS], lock[LEVELS]; } Node;
 typedef struct { uint32_t value, timestamp, prev; } Version;
 
 enum { STATE_WORDS = sizeof(State) / sizeof(uint32_t) };
 
-_Static_assert(STATE_WORDS == 153, "the state's layout");
+_Static_assert(STATE_WORDS == 161, "the state's layout");
 _Static_assert(sizeof(Node) == NODE_WORDS * sizeof(uint32_t), "a node's layout");
 _Static_assert(sizeof(Version) == VERSION_WORDS * sizeof(uint32_t), "a version's layout");
+
+/* ---- keys: two words apart in a node, side by side in a process, one number wherever they are compared */
+
+static inline uint64_t key_at(const Node *x) { return TRAY_NUMBER(x->key_low, x->key_high); }
+
+static inline uint64_t key_sought(const Process *c) { return TRAY_NUMBER(c->key_low, c->key_high); }
 
 /* ---- sizes */
 
@@ -73,7 +79,7 @@ static inline int lawful_processes(uint32_t processes) { return processes >= 1 &
 
 static inline int lawful_limit(uint32_t limit) { return limit >= 1 && limit <= MAX_LIMIT; }
 
-static inline int lawful_key(uint32_t key) { return key != 0 && key != UINT32_MAX; }
+static inline int lawful_key(uint64_t key) { return key != 0 && key != UINT64_MAX; }
 
 /* The head of a state of the right length. Written out for the tables: each is divided once, for its length and its count. */
 static inline int lawful_head(const State *s)
@@ -153,7 +159,7 @@ uint32_t tray_open(uint32_t *state, size_t state_words, uint32_t *nodes, size_t 
 }
 
 static Refusal start_refusal(const State *s, size_t state_words, size_t node_words, size_t version_words,
-                             uint32_t process, uint32_t key)
+                             uint32_t process, uint64_t key)
 {
     return !lawful_state(s, state_words) || !like_tables(s, node_words, version_words) ? CORRUPT
          : process >= s->processes                                                     ? NO_PROCESS
@@ -169,7 +175,7 @@ static uint32_t top_of(uint16_t draw)
 }
 
 uint32_t tray_start_put(uint32_t *state, size_t state_words, const uint32_t *nodes, size_t node_words,
-                        const uint32_t *readings, size_t reading_words, uint32_t station, uint32_t tray,
+                        const uint32_t *readings, size_t reading_words, uint32_t station, uint64_t tray,
                         uint32_t value, uint32_t stamp, uint16_t draw, uint32_t *tick)
 {
     State *s = (State *)state;
@@ -179,14 +185,15 @@ uint32_t tray_start_put(uint32_t *state, size_t state_words, const uint32_t *nod
     *tick = 0;
     if (refusal == ACCEPTED) {
         *tick = ++s->events;
-        s->process[station] = (Process){ .kind = PUT, .key = tray, .value = value, .timestamp = stamp,
-                                         .top = top_of(draw), .start = *tick, .level = TOP, .answer = NONE };
+        s->process[station] = (Process){ .kind = PUT, .key_low = (uint32_t)tray, .key_high = (uint32_t)(tray >> 32),
+                                         .value = value, .timestamp = stamp, .top = top_of(draw), .start = *tick,
+                                         .level = TOP, .answer = NONE };
     }
     return refusal;
 }
 
 uint32_t tray_start_get(uint32_t *state, size_t state_words, const uint32_t *nodes, size_t node_words,
-                        const uint32_t *readings, size_t reading_words, uint32_t station, uint32_t tray,
+                        const uint32_t *readings, size_t reading_words, uint32_t station, uint64_t tray,
                         uint32_t *tick)
 {
     State *s = (State *)state;
@@ -196,7 +203,8 @@ uint32_t tray_start_get(uint32_t *state, size_t state_words, const uint32_t *nod
     *tick = 0;
     if (refusal == ACCEPTED) {
         *tick = ++s->events;
-        s->process[station] = (Process){ .kind = GET, .key = tray, .start = *tick, .level = TOP, .answer = NONE };
+        s->process[station] = (Process){ .kind = GET, .key_low = (uint32_t)tray, .key_high = (uint32_t)(tray >> 32),
+                                         .start = *tick, .level = TOP, .answer = NONE };
     }
     return refusal;
 }
@@ -241,12 +249,12 @@ static inline uint32_t finish(State *s, Process *c, uint32_t *tally, uint32_t *a
 /* `next` is in use or the end: the caller has seen to that. */
 static inline int before(const Process *c, const Node *nodes, uint32_t next)
 {
-    return next != 0 && nodes[next].key < c->key;
+    return next != 0 && key_at(&nodes[next]) < key_sought(c);
 }
 
 static inline int leads_to_key(const Process *c, const Node *nodes, uint32_t next)
 {
-    return next != 0 && nodes[next].key == c->key;
+    return next != 0 && key_at(&nodes[next]) == key_sought(c);
 }
 
 TURN(walk)
@@ -386,7 +394,8 @@ TURN(make)
     }
     uint32_t *link = &nodes[c->pred].next[0];
     uint32_t made = ++s->nodes;
-    nodes[made] = (Node){ .key = c->key, .newest = add_version(s, c, versions, 0), .top = c->top, .next = { *link } };
+    nodes[made] = (Node){ .key_low = c->key_low, .newest = add_version(s, c, versions, 0), .top = c->top,
+                          .key_high = c->key_high, .next = { *link } };
     *link = made;
     c->made = made;
     return commit(s, c, answer, NEW);
@@ -469,10 +478,10 @@ uint32_t tray_step(uint32_t *state, size_t state_words, uint32_t *nodes, size_t 
 
 /* ---- look, inspection, standing */
 
-static uint32_t find_key(const Node *nodes, uint32_t last, uint32_t key)
+static uint32_t find_key(const Node *nodes, uint32_t last, uint64_t key)
 {
     for (uint32_t x = 1; x <= last; x++) {
-        if (nodes[x].key == key) {
+        if (key_at(&nodes[x]) == key) {
             return x;
         }
     }
@@ -496,7 +505,7 @@ static Refusal follow(const Version *versions, uint32_t back, uint32_t *i)
 }
 
 uint32_t tray_look(const uint32_t *state, size_t state_words, const uint32_t *nodes, size_t node_words,
-                   const uint32_t *readings, size_t reading_words, uint32_t tray, uint32_t back,
+                   const uint32_t *readings, size_t reading_words, uint64_t tray, uint32_t back,
                    uint32_t answer[2])
 {
     const State *s = (const State *)state;
@@ -568,7 +577,7 @@ static int fault_on(const State *s, const Node *nodes, const Version *versions, 
         if (next == 0) {
             return seen < due;
         }
-        if (nodes[next].key <= x->key || nodes[next].top < level) {
+        if (key_at(&nodes[next]) <= key_at(x) || nodes[next].top < level) {
             return 1;
         }
         *at = next;

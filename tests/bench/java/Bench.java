@@ -12,8 +12,10 @@ final class Bench {
 
     private record Version(int value, int timestamp, Version prev) {}
 
+    private record Call(int kind, long key, int value, int timestamp) {}
+
     private final int keys, versions;
-    private ConcurrentSkipListMap<Integer, Version> map = new ConcurrentSkipListMap<>();
+    private ConcurrentSkipListMap<Long, Version> map;
     /** Counted here: the map's own size() walks it. */
     private int made, held;
     private long answers;
@@ -26,18 +28,16 @@ final class Bench {
     public static void main(String[] arguments) throws IOException {
         DataInputStream plan = new DataInputStream(new BufferedInputStream(System.in));
         Bench bench = new Bench(plan.readInt(), plan.readInt());
-        int[][] fill = calls(plan), gets = calls(plan), puts = calls(plan);
+        Call[] fill = calls(plan), gets = calls(plan), puts = calls(plan);
         report(fill.length, () -> bench.refill(fill));
         report(gets.length, () -> bench.play(gets));
         report(puts.length, () -> bench.play(puts));
     }
 
-    private static int[][] calls(DataInputStream plan) throws IOException {
-        int[][] calls = new int[plan.readInt()][4];
-        for (int[] call : calls) {
-            for (int word = 0; word < 4; word++) {
-                call[word] = plan.readInt();
-            }
+    private static Call[] calls(DataInputStream plan) throws IOException {
+        Call[] calls = new Call[plan.readInt()];
+        for (int index = 0; index < calls.length; index++) {
+            calls[index] = new Call(plan.readInt(), plan.readLong(), plan.readInt(), plan.readInt());
         }
         return calls;
     }
@@ -54,28 +54,28 @@ final class Bench {
         System.out.println((double) taken[ROUNDS / 2] / calls + " " + Long.toUnsignedString(answers));
     }
 
-    private long refill(int[][] fill) {
-        map = new ConcurrentSkipListMap<>();
+    private long refill(Call[] fill) {
+        map = new ConcurrentSkipListMap<>(Long::compareUnsigned);
         made = 0;
         held = 0;
         return play(fill);
     }
 
-    private long play(int[][] calls) {
+    private long play(Call[] calls) {
         answers = 0;
         for (int index = 0; index < calls.length; index++) {
-            int[] call = calls[index];
-            if (call[0] == PUT) {
-                answered(index, put(call[1], call[2], call[3]), call[2], call[3]);
+            Call call = calls[index];
+            if (call.kind == PUT) {
+                answered(index, put(call.key, call.value, call.timestamp), call.value, call.timestamp);
             } else {
-                Version newest = map.get(call[1]);
+                Version newest = map.get(call.key);
                 answered(index, newest == null ? NONE : FOUND, newest == null ? 0 : newest.value, newest == null ? 0 : newest.timestamp);
             }
         }
         return answers;
     }
 
-    private int put(int key, int value, int timestamp) {
+    private int put(long key, int value, int timestamp) {
         Version newest = map.get(key);
         if (newest != null && Integer.compareUnsigned(timestamp, newest.timestamp) < 0) {
             return TOO_OLD;

@@ -16,15 +16,22 @@ const MAX_LIMIT: u32 = 1_000_000_000;
 const ANSWERS: usize = 7;
 
 // Words of a node and of a version.
-const KEY: usize = 0;
+const KEY_LOW: usize = 0;
 const NEWEST: usize = 1;
 const TOP: usize = 2;
+const KEY_HIGH: usize = 3;
 const NEXT: usize = 4;
 const LOCK: usize = 10;
 const TIMESTAMP: usize = 1;
 
 type Node = [u32; NODE_WORDS];
 type Version = [u32; VERSION_WORDS];
+
+/// A node's key: two words, one number wherever it is compared.
+#[inline]
+fn key_at(node: &Node) -> u64 {
+    (node[KEY_HIGH] as u64) << 32 | node[KEY_LOW] as u64
+}
 
 #[derive(Clone, Copy, Debug, PartialEq, Eq)]
 pub enum Refusal {
@@ -75,7 +82,7 @@ enum Answer {
 #[derive(Clone, Copy)]
 struct Process {
     kind: Kind,
-    key: u32,
+    key: u64,
     value: u32,
     timestamp: u32,
     top: u32,
@@ -189,7 +196,7 @@ impl State {
     fn start(&mut self, nodes: &[u32], versions: &[u32], process: u32, call: &Call) -> Result<u32, Refusal> {
         refuse_unless(self.lawful(nodes, versions), Refusal::Corrupt)?;
         refuse_unless(process < self.processes, Refusal::NoProcess)?;
-        refuse_unless(call.key != 0 && call.key != u32::MAX, Refusal::BadKey)?;
+        refuse_unless(call.key != 0 && call.key != u64::MAX, Refusal::BadKey)?;
         let slot = &mut self.process[process as usize];
         refuse_unless(slot.kind == Kind::Idle, Refusal::Busy)?;
         refuse_unless(self.events < self.limit, Refusal::Spent)?;

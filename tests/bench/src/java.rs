@@ -35,7 +35,8 @@ fn figure(line: &str, workload: Workload) -> Figure {
     Figure { workload, nanos: nanos.parse().unwrap(), answers: answers.parse().unwrap() }
 }
 
-/// Big-endian words: keys, versions, then for each list its length and its calls (1 put or 2 get, key, value, timestamp).
+/// Big-endian words: keys, versions, then for each list its length and its calls (1 put or 2 get, the key's high and low
+/// half, value, timestamp).
 fn plan_bytes(plan: &Plan) -> Vec<u8> {
     let mut words = vec![plan.keys, plan.versions];
     for calls in [&plan.fill, &plan.gets, &plan.puts] {
@@ -45,9 +46,10 @@ fn plan_bytes(plan: &Plan) -> Vec<u8> {
     words.iter().flat_map(|word| word.to_be_bytes()).collect()
 }
 
-fn call_words(call: &Call) -> [u32; 4] {
+fn call_words(call: &Call) -> [u32; 5] {
+    let (high, low) = ((call.key >> 32) as u32, call.key as u32);
     match call.kind {
-        Kind::Put { value, timestamp, .. } => [1, call.key, value, timestamp],
-        Kind::Get => [2, call.key, 0, 0],
+        Kind::Put { value, timestamp, .. } => [1, high, low, value, timestamp],
+        Kind::Get => [2, high, low, 0, 0],
     }
 }

@@ -13,7 +13,7 @@ const FOUND: u32 = 5;
 const NONE: u32 = 6;
 
 pub struct Map {
-    lists: BTreeMap<u32, Vec<(u32, u32)>>,
+    lists: BTreeMap<u64, Vec<(u32, u32)>>,
     held: u32,
     keys: u32,
     versions: u32,
@@ -53,14 +53,14 @@ impl Map {
         run
     }
 
-    fn get(&self, key: u32) -> (u32, u32, u32) {
+    fn get(&self, key: u64) -> (u32, u32, u32) {
         match self.lists.get(&key).and_then(|list| list.last()) {
             Some(&(value, timestamp)) => (FOUND, value, timestamp),
             None => (NONE, 0, 0),
         }
     }
 
-    fn put(&mut self, key: u32, value: u32, timestamp: u32) -> u32 {
+    fn put(&mut self, key: u64, value: u32, timestamp: u32) -> u32 {
         let full = self.held == self.versions;
         let Some(list) = self.lists.get_mut(&key) else { return self.put_new(key, value, timestamp) };
         if list.last().is_some_and(|newest| timestamp < newest.1) {
@@ -74,7 +74,7 @@ impl Map {
         ADDED
     }
 
-    fn put_new(&mut self, key: u32, value: u32, timestamp: u32) -> u32 {
+    fn put_new(&mut self, key: u64, value: u32, timestamp: u32) -> u32 {
         if self.lists.len() == self.keys as usize {
             return KEYS_FULL;
         }

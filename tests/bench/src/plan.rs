@@ -16,11 +16,21 @@ impl Random {
         (((self.long() >> 32) * bound as u64) >> 32) as u32
     }
 
-    /// A key of 31 bits: Java's integers order them as we do.
-    fn key(&mut self) -> u32 {
-        1 + self.below(0x7FFF_FFFE)
+    /// Keys all over the 64 bits. A third of them have both halves of their own; a third share the high half with many
+    /// others, so that the low one settles their order; a third share the low half.
+    fn key(&mut self) -> u64 {
+        let own = self.long();
+        let shared = SHARED[self.below(SHARED.len() as u32) as usize];
+        match self.below(3) {
+            0 => own,
+            1 => shared << 32 | own >> 32,
+            _ => own << 32 | shared,
+        }
     }
 }
+
+/// Halves that many keys have: the least and the greatest, and those where a signed order would go wrong.
+const SHARED: [u64; 4] = [0, 0x7FFF_FFFF, 0x8000_0000, 0xFFFF_FFFF];
 
 #[derive(Clone, Copy)]
 pub enum Kind {
@@ -30,7 +40,7 @@ pub enum Kind {
 
 #[derive(Clone, Copy)]
 pub struct Call {
-    pub key: u32,
+    pub key: u64,
     pub kind: Kind,
 }
 
@@ -64,14 +74,14 @@ impl Plan {
     }
 }
 
-fn put(random: &mut Random, key: u32, timestamp: u32) -> Call {
+fn put(random: &mut Random, key: u64, timestamp: u32) -> Call {
     let value = random.below(u32::MAX);
     let draw = random.long() as u16;
     Call { key, kind: Kind::Put { value, timestamp, draw } }
 }
 
 /// Put number `at` of a fill: new keys come evenly among versions added to keys that are there.
-fn fill_call(random: &mut Random, made: &mut Vec<u32>, at: u32, keys: u32, versions: u32) -> Call {
+fn fill_call(random: &mut Random, made: &mut Vec<u64>, at: u32, keys: u32, versions: u32) -> Call {
     let due = (at as u64 * keys as u64).div_ceil(versions as u64).max(1);
     let key = if (made.len() as u64) < due || versions - at <= keys - made.len() as u32 {
         let key = random.key();

@@ -3,7 +3,7 @@
 use crate::drive::{Done, Store, Turn, PROCESSES};
 use crate::plan::{Call, Kind};
 
-const STATE_WORDS: usize = 153;
+const STATE_WORDS: usize = 161;
 const TALLY_WORDS: usize = 7;
 const LIMIT: u32 = 1_000_000_000;
 const ON: u32 = 0;
@@ -20,11 +20,11 @@ macro_rules! store {
             ) -> u32;
             fn $start_put(
                 state: *mut u32, state_words: usize, nodes: *const u32, node_words: usize, readings: *const u32,
-                reading_words: usize, station: u32, tray: u32, value: u32, stamp: u32, draw: u16, tick: *mut u32,
+                reading_words: usize, station: u32, tray: u64, value: u32, stamp: u32, draw: u16, tick: *mut u32,
             ) -> u32;
             fn $start_get(
                 state: *mut u32, state_words: usize, nodes: *const u32, node_words: usize, readings: *const u32,
-                reading_words: usize, station: u32, tray: u32, tick: *mut u32,
+                reading_words: usize, station: u32, tray: u64, tick: *mut u32,
             ) -> u32;
             fn $step(
                 state: *mut u32, state_words: usize, nodes: *mut u32, node_words: usize, readings: *mut u32,

@@ -42,7 +42,7 @@ fn fault_on(nodes: &[Node], versions: &[Version], level: usize, due: u32) -> Opt
             return (seen < due).then_some(at);
         }
         match nodes.get(next as usize) {
-            Some(behind) if behind[KEY] > node[KEY] && behind[TOP] as usize >= level => at = next,
+            Some(behind) if key_at(behind) > key_at(node) && behind[TOP] as usize >= level => at = next,
             _ => return Some(at),
         }
         seen += 1;

@@ -91,8 +91,8 @@ impl Memory<'_> {
         &mut self.nodes[self.call.pred as usize][LOCK + self.call.level as usize]
     }
 
-    fn key(&self, node: u32) -> u32 {
-        self.nodes[node as usize][KEY]
+    fn key(&self, node: u32) -> u64 {
+        key_at(&self.nodes[node as usize])
     }
 
     /// The link of p at L, a node in use or the end, and whether that is before the call's key.
@@ -224,7 +224,8 @@ impl Memory<'_> {
         *self.used_nodes += 1;
         let made = *self.used_nodes;
         let mut record = [0; NODE_WORDS];
-        record[KEY] = self.call.key;
+        record[KEY_LOW] = self.call.key as u32;
+        record[KEY_HIGH] = (self.call.key >> 32) as u32;
         record[NEWEST] = self.add_version(0);
         record[TOP] = self.call.top;
         record[NEXT] = *self.link_at(0);
