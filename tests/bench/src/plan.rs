@@ -16,15 +16,16 @@ impl Random {
         (((self.long() >> 32) * bound as u64) >> 32) as u32
     }
 
-    /// Keys all over the 64 bits. A third of them have both halves of their own; a third share the high half with many
-    /// others, so that the low one settles their order; a third share the low half.
+    /// A key anywhere in the 64 bits. A third of all keys are any number; a third share the high half with many others,
+    /// so that the low one settles their order; a third share the low half.
     fn key(&mut self) -> u64 {
-        let own = self.long();
-        let shared = SHARED[self.below(SHARED.len() as u32) as usize];
-        match self.below(3) {
-            0 => own,
-            1 => shared << 32 | own >> 32,
-            _ => own << 32 | shared,
+        let long = self.long();
+        let half = long & 0xFFFF_FFFF;
+        let shared = SHARED[(long >> 32) as usize % SHARED.len()];
+        match (long >> 34) % 3 {
+            0 => long,
+            1 => shared << 32 | half,
+            _ => half << 32 | shared,
         }
     }
 }
