@@ -561,9 +561,10 @@ static void count_reaching(const Node *nodes, uint32_t last, uint32_t reaching[L
     }
 }
 
-/* Walks one level; 1 and the node reached at its first fault. Keys rise on the way, so it ends. */
+/* Walks one level; 1 and the node reached at its first fault. Keys rise on the way, so it ends; the last one read goes along. */
 static int fault_on(const State *s, const Node *nodes, const Version *versions, uint32_t level, uint32_t due, uint32_t *at)
 {
+    uint64_t key = key_at(nodes);
     uint32_t seen = 0;
     for (*at = 0;; seen++) {
         const Node *x = &nodes[*at];
@@ -577,9 +578,11 @@ static int fault_on(const State *s, const Node *nodes, const Version *versions, 
         if (next == 0) {
             return seen < due;
         }
-        if (key_at(&nodes[next]) <= key_at(x) || nodes[next].top < level) {
+        uint64_t next_key = key_at(&nodes[next]);
+        if (next_key <= key || nodes[next].top < level) {
             return 1;
         }
+        key = next_key;
         *at = next;
     }
 }

@@ -31,6 +31,7 @@ fn reaching(nodes: &[Node]) -> [u32; LEVELS] {
 /// Both slices end with what is in use. Keys rise on the way, so it ends.
 fn fault_on(nodes: &[Node], versions: &[Version], level: usize, due: u32) -> Option<u32> {
     let mut at = 0;
+    let mut key = key_at(&nodes[0]);
     let mut seen = 0;
     loop {
         let node = &nodes[at as usize];
@@ -42,7 +43,10 @@ fn fault_on(nodes: &[Node], versions: &[Version], level: usize, due: u32) -> Opt
             return (seen < due).then_some(at);
         }
         match nodes.get(next as usize) {
-            Some(behind) if key_at(behind) > key_at(node) && behind[TOP] as usize >= level => at = next,
+            Some(behind) if key_at(behind) > key && behind[TOP] as usize >= level => {
+                at = next;
+                key = key_at(behind);
+            }
             _ => return Some(at),
         }
         seen += 1;
