@@ -27,15 +27,19 @@ static uint32_t nodes[NODE_WORDS];
 static uint32_t readings[READING_WORDS];
 static uint32_t tally[TRAY_TALLY_WORDS];
 
-/* The trays in the order of arrival, with what the sensors see of each. Tray numbers are tags and rise in no order. */
+/*
+ * The trays in the order of arrival, with what the sensors see of each. Tray numbers are tracking numbers of twelve digits,
+ * four of the farm and eight of its own count: longer than 32 bits, rising in no order, the count 512 here from two farms.
+ */
 struct tray {
-    uint32_t number, weight, class_seen;
+    uint64_t number;
+    uint32_t weight, class_seen;
 };
 static const struct tray arrivals[] = {
-    {512, 1874, CLASS_A}, {407, 1902, CLASS_A}, {640, 1655, SECONDS},
-    {388, 1921, CLASS_A}, {395, 1730, SECONDS}, {701, 1888, CLASS_A},
+    {204100000512, 1874, CLASS_A}, {204100000407, 1902, CLASS_A}, {307700000512, 1655, SECONDS},
+    {204100000388, 1921, CLASS_A}, {307700000395, 1730, SECONDS}, {307700000701, 1888, CLASS_A},
 };
-static const struct tray by_hand = {777, 1840, CLASS_A}; /* someone sets it down behind the scale and the candler */
+static const struct tray by_hand = {204100000777, 1840, CLASS_A}; /* someone sets it down behind the scale and the candler */
 enum { ARRIVALS = sizeof arrivals / sizeof arrivals[0] };
 
 /* The trays in front of each station. The first stays there until its call is done. */
@@ -91,14 +95,14 @@ static uint16_t draw(void)
     return bits;
 }
 
-static uint32_t look(uint32_t tray, uint32_t back, unsigned word)
+static uint32_t look(uint64_t tray, uint32_t back, unsigned word)
 {
     uint32_t answer[TRAY_LOOK_WORDS];
     stop_if(tray_look(state, TRAY_STATE_WORDS, nodes, NODE_WORDS, readings, READING_WORDS, tray, back, answer), "look");
     return answer[word];
 }
 
-static void start_put(unsigned station, uint32_t tray, uint32_t value)
+static void start_put(unsigned station, uint64_t tray, uint32_t value)
 {
     uint32_t tick;
     stop_if(tray_start_put(state, TRAY_STATE_WORDS, nodes, NODE_WORDS, readings, READING_WORDS, station, tray, value, clock_now,
@@ -106,7 +110,7 @@ static void start_put(unsigned station, uint32_t tray, uint32_t value)
             "start of a put");
 }
 
-static void start_get(unsigned station, uint32_t tray)
+static void start_get(unsigned station, uint64_t tray)
 {
     uint32_t tick;
     stop_if(tray_start_get(state, TRAY_STATE_WORDS, nodes, NODE_WORDS, readings, READING_WORDS, station, tray, &tick),
@@ -154,16 +158,16 @@ static void tell_standing(unsigned station)
     }
 }
 
-/* Who holds the lock that a station waits at, read from the words of the state and the node table. */
+/* Which tray waits and who holds the lock that it waits at, read from the words of the state and the node table. */
 static void tell_wait(unsigned station, uint32_t tick)
 {
     static int told;
     const uint32_t *words = &state[TRAY_STATION_AT(station)];
     const uint32_t *node = &nodes[TRAY_WORDS_PER_NODE * words[TRAY_STATION_NODE]];
     uint32_t holder = node[TRAY_NODE_LOCKS + words[TRAY_STATION_LEVEL]] - 1;
-    printf("%6" PRIu32 "  %-7s waits, tray %" PRIu32 ": the lock of node %" PRIu32 ", level %" PRIu32 ", is the %s's\n", tick,
-           station_names[station], tray_at(station)->number, words[TRAY_STATION_NODE], words[TRAY_STATION_LEVEL],
-           holder < STATIONS ? station_names[holder] : "nobody");
+    printf("%6" PRIu32 "  %-7s waits, tray %" PRIu64 ": the lock of node %" PRIu32 ", level %" PRIu32 ", is the %s's\n", tick,
+           station_names[station], TRAY_NUMBER(words[TRAY_STATION_TRAY_LOW], words[TRAY_STATION_TRAY_HIGH]),
+           words[TRAY_STATION_NODE], words[TRAY_STATION_LEVEL], holder < STATIONS ? station_names[holder] : "nobody");
     for (unsigned i = 0; !told && i < STATIONS; i++) {
         tell_standing(i);
     }
@@ -211,7 +215,7 @@ static void finish(unsigned station, const uint32_t answer[TRAY_STEP_WORDS])
     const struct tray *tray = tray_at(station);
     int put = answer[TRAY_STEP_KIND] == TRAY_KIND_PUT;
     belts[station].first++;
-    printf("%6" PRIu32 "  %-7s %s %" PRIu32 "  %-13s ", answer[TRAY_STEP_TICK], station_names[station], put ? "put" : "get",
+    printf("%6" PRIu32 "  %-7s %s %" PRIu64 "  %-13s ", answer[TRAY_STEP_TICK], station_names[station], put ? "put" : "get",
            tray->number, answer_names[answer[TRAY_STEP_ANSWER]]);
     if (answer[TRAY_STEP_ANSWER] == TRAY_ANSWER_NONE) {
         printf("%25s", "");
@@ -272,8 +276,8 @@ static void tell_held(void)
     printf("\n%" PRIu32 " trays, %" PRIu32 " readings, %" PRIu32 " events\n", state[TRAY_STATE_TRAYS], state[TRAY_STATE_READINGS],
            state[TRAY_STATE_EVENTS]);
     for (unsigned i = 0; i < ARRIVALS; i++) {
-        uint32_t tray = arrivals[i].number;
-        printf("  tray %" PRIu32 ": ", tray);
+        uint64_t tray = arrivals[i].number;
+        printf("  tray %" PRIu64 ": ", tray);
         tell_reading(look(tray, 0, TRAY_LOOK_VALUE), look(tray, 0, TRAY_LOOK_STAMP));
         printf(", before it ");
         tell_reading(look(tray, 1, TRAY_LOOK_VALUE), look(tray, 1, TRAY_LOOK_STAMP));
