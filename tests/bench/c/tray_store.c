@@ -39,7 +39,7 @@ _Static_assert(STATE_WORDS == 161, "the state's layout");
 _Static_assert(sizeof(Node) == NODE_WORDS * sizeof(uint32_t), "a node's layout");
 _Static_assert(sizeof(Version) == VERSION_WORDS * sizeof(uint32_t), "a version's layout");
 
-/* ---- keys: two words apart in a node, side by side in a process, one number wherever they are compared */
+/* ---- keys: two words of a node or a process, one number wherever they are compared */
 
 static inline uint64_t key_at(const Node *x) { return TRAY_NUMBER(x->key_low, x->key_high); }
 
