@@ -23,6 +23,16 @@ pub enum Slip {
     LateEffects,
     /// Each finished call is counted as found too.
     InventedTally,
+    /// A step compares the low halves of keys alone.
+    HighIgnored,
+    /// A step compares the low halves of keys first.
+    LowFirst,
+    /// The halves of its key are changed over in a new node's record.
+    HalvesSwapped,
+    /// A look compares the low halves of keys alone.
+    LookByLow,
+    /// An inspection compares the low halves of keys alone.
+    InspectByLow,
     /// A get ends at the level where it meets its key. Demand 3 cannot see it.
     GetEndsHigh,
     /// A free lock is waited for at odd ticks. Demand 3 cannot see it.
@@ -31,7 +41,7 @@ pub enum Slip {
 
 impl Slip {
     /// Those that break demand 3.
-    pub const SEEN: [Slip; 9] = [
+    pub const SEEN: [Slip; 14] = [
         Slip::StaleLink,
         Slip::OwnNodeLocked,
         Slip::EqualDropped,
@@ -41,6 +51,11 @@ impl Slip {
         Slip::InventedTicks,
         Slip::LateEffects,
         Slip::InventedTally,
+        Slip::HighIgnored,
+        Slip::LowFirst,
+        Slip::HalvesSwapped,
+        Slip::LookByLow,
+        Slip::InspectByLow,
     ];
     /// Those that only a comparison step by step shows.
     pub const UNSEEN: [Slip; 2] = [Slip::GetEndsHigh, Slip::WaitAtFree];
@@ -72,13 +87,46 @@ impl Machine for Broken {
             Slip::GetNone => self.get_none(process, &call),
             Slip::GetEndsHigh => self.get_ends_high(process, &call),
             Slip::WaitAtFree => self.wait_at_free(&call),
+            Slip::HighIgnored => self.step_seeing(process, low_alone),
+            Slip::LowFirst => self.step_seeing(process, |key| key.rotate_left(32)),
+            Slip::HalvesSwapped => self.halves_swapped(process, &call),
             Slip::InventedTicks | Slip::LateEffects | Slip::InventedTally => None,
+            Slip::LookByLow | Slip::InspectByLow => None,
         };
         match slipped {
             Some(step) => Ok(step),
             None => self.store.step(process).map(|step| self.invented(step)),
         }
     }
+
+    fn look(&self, key: u64, back: u32) -> Result<(u32, u32), Refusal> {
+        let right = self.store.look(key, back);
+        let searched = !matches!(right, Err(Refusal::AlteredState | Refusal::KeyOutOfRange));
+        if self.slip != Slip::LookByLow || !searched {
+            return right;
+        }
+        let mut keys = (1..=self.store.state.nodes).map(|node| self.store.key(node));
+        let met = keys.find(|&met| low_alone(met) == low_alone(key));
+        met.map_or(right, |met| self.store.look(met, back))
+    }
+
+    fn inspect(&self) -> Result<Verdict, Refusal> {
+        let right = self.store.inspect();
+        if self.slip == Slip::InspectByLow && right.is_ok() {
+            self.seeing(low_alone).inspect()
+        } else {
+            right
+        }
+    }
+}
+
+fn low_alone(key: u64) -> u64 {
+    low_half(key).into()
+}
+
+fn set_key(store: &mut Store, node: u32, key: u64) {
+    store.set_node_word(node, KEY_LOW, low_half(key));
+    store.set_node_word(node, KEY_HIGH, high_half(key));
 }
 
 impl Broken {
@@ -99,6 +147,41 @@ impl Broken {
     fn takes_effect(&mut self, process: u32, call: &Process, answer: Answer) -> Option<Step> {
         let effect = self.store.state.events + 1;
         self.goes_on(process, Process { answer, effect, phase: Phase::Release, ..*call })
+    }
+
+    /// The store with other keys in its nodes in use, each as `seen` makes it of the right one.
+    fn seeing(&self, seen: fn(u64) -> u64) -> Store {
+        let mut store = self.store.clone();
+        (0..=store.state.nodes).for_each(|node| set_key(&mut store, node, seen(self.store.key(node))));
+        store
+    }
+
+    /// A step that sees its own key and those of the nodes like this. It leaves the right ones.
+    fn step_seeing(&mut self, process: u32, seen: fn(u64) -> u64) -> Option<Step> {
+        let index = process as usize;
+        let own = self.store.state.process[index].key;
+        let mut store = self.seeing(seen);
+        store.state.process[index].key = seen(own);
+        let step = store.step(process).ok()?;
+        (0..=self.store.state.nodes).for_each(|node| set_key(&mut store, node, self.store.key(node)));
+        if store.state.nodes > self.store.state.nodes {
+            let made = store.state.nodes;
+            set_key(&mut store, made, own);
+        }
+        if store.state.process[index].kind != Kind::Idle {
+            store.state.process[index].key = own;
+        }
+        self.store = store;
+        Some(step)
+    }
+
+    fn halves_swapped(&mut self, process: u32, call: &Process) -> Option<Step> {
+        let nodes = self.store.state.nodes;
+        let step = self.store.step(process).ok()?;
+        if self.store.state.nodes > nodes {
+            set_key(&mut self.store, nodes + 1, call.key.rotate_left(32));
+        }
+        Some(step)
     }
 
     fn invented(&mut self, step: Step) -> Step {

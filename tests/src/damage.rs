@@ -4,7 +4,7 @@
 //! answer in words; with `State::to_words`, the two tables and the tally this is all that another implementation has
 //! to agree with.
 
-use crate::generate::{call, live_store};
+use crate::generate::{call, live_store, near, EDGE_KEYS};
 use crate::model::*;
 use crate::random::Random;
 
@@ -14,7 +14,7 @@ pub enum Operation {
     Open { processes: u32, limit: u32 },
     Start { process: u32, call: Call },
     Step { process: u32 },
-    Look { key: u32, back: u32 },
+    Look { key: u64, back: u32 },
     Inspect,
     Status { process: u32 },
 }
@@ -127,12 +127,13 @@ impl Damage {
 
     /// One alteration anywhere.
     fn alter(&mut self) {
-        match self.random.below(12) {
+        match self.random.below(13) {
             0 => self.alter_head(),
             1..=5 => self.alter_process(),
             6..=8 => self.alter_node(),
             9 => self.alter_version(),
             10 => self.alter_lengths(),
+            11 => self.alter_key(),
             _ => self.garbage(),
         }
     }
@@ -154,11 +155,12 @@ impl Damage {
 
     fn alter_process(&mut self) {
         let number = self.number();
+        let key = self.key();
         let index = self.random.below(PROCESSES as u32) as usize;
         let process = &mut self.store.state.process[index];
         match self.random.below(13) {
             0 => process.kind = self.random.pick(&[Kind::Idle, Kind::Put, Kind::Get]),
-            1 => process.key = number,
+            1 => process.key = key,
             2 => process.timestamp = number,
             3 => process.top = number,
             4 => process.start = number,
@@ -182,6 +184,20 @@ impl Damage {
         if let Some(at) = self.store.node_table.get_mut(node as usize * NODE_WORDS + word) {
             *at = number;
         }
+    }
+
+    /// One half of a node's key, at times that of another node: two keys then agree in it.
+    fn alter_key(&mut self) {
+        let nodes = (self.store.node_table.len() / NODE_WORDS) as u32;
+        let nodes = nodes.min(self.store.state.nodes.saturating_add(1));
+        if nodes == 0 {
+            return;
+        }
+        let (node, other) = (self.random.below(nodes), self.random.below(nodes));
+        let word = self.random.pick(&[KEY_LOW, KEY_HIGH]);
+        let number = self.number();
+        let to = if self.random.once_in(2) { self.store.node_word(other, word) } else { number };
+        self.store.set_node_word(node, word, to);
     }
 
     fn alter_version(&mut self) {
@@ -255,7 +271,7 @@ impl Damage {
         let calm = self.random.once_in(2);
         Process {
             kind,
-            key: self.number(),
+            key: self.any_key(),
             value: self.number(),
             timestamp: self.number(),
             top: self.random.below(if calm { 6 } else { 8 }),
@@ -319,15 +335,29 @@ impl Damage {
         }
     }
 
-    /// A key that some node has, or any.
-    fn key(&mut self) -> u32 {
+    /// A key at an edge, or of numbers at edges.
+    fn any_key(&mut self) -> u64 {
+        match self.random.below(3) {
+            0 => self.number().into(),
+            1 => key_of_halves(self.number(), self.number()),
+            _ => self.random.pick(&EDGE_KEYS),
+        }
+    }
+
+    /// A key that some node has, or one that agrees with it in one half, or any.
+    fn key(&mut self) -> u64 {
         let nodes = (self.store.node_table.len() / NODE_WORDS) as u32;
         let last = nodes.saturating_sub(1).min(self.store.state.nodes);
         if last == 0 || self.random.once_in(5) {
-            return self.number();
+            return self.any_key();
         }
         let node = self.random.within(1, last);
-        self.store.node_table[node as usize * NODE_WORDS]
+        let key = self.store.key(node);
+        if self.random.once_in(5) {
+            near(&mut self.random, key)
+        } else {
+            key
+        }
     }
 
     fn back(&mut self) -> u32 {

@@ -7,7 +7,7 @@
 
 use crate::ledger::{check, History, Opening, Watch};
 use crate::machine::{Machine, Recorder};
-use crate::model::{Call, Refusal, Store};
+use crate::model::{Call, Refusal, Store, FIRST_KEY, LAST_KEY};
 use std::collections::hash_map::DefaultHasher;
 use std::collections::HashSet;
 use std::fmt::Debug;
@@ -60,7 +60,7 @@ struct Explorer<'a, M> {
     scope: &'a Scope,
     fresh: M,
     /// Keys to look for.
-    keys: Vec<u32>,
+    keys: Vec<u64>,
     seen: HashSet<u128>,
     schedule: Vec<u32>,
     report: Report,
@@ -101,10 +101,11 @@ pub fn replay<M: Machine>(fresh: M, scope: &Scope, schedule: &[u32]) -> History 
 }
 
 impl Scope {
-    /// The keys that any call names, 1 and the two unlawful ones.
-    fn keys(&self) -> Vec<u32> {
+    /// The keys that any call names, the first, the last of 32 bits and the two unlawful ones.
+    fn keys(&self) -> Vec<u64> {
         let calls = self.first.iter().chain(self.scripts.iter().flatten());
-        let mut keys: Vec<u32> = calls.map(|call| call.key()).chain([0, 1, u32::MAX]).collect();
+        let others = [FIRST_KEY - 1, FIRST_KEY, u32::MAX.into(), LAST_KEY + 1];
+        let mut keys: Vec<u64> = calls.map(|call| call.key()).chain(others).collect();
         keys.sort_unstable();
         keys.dedup();
         keys
@@ -199,17 +200,18 @@ impl<M: Machine> Explorer<'_, M> {
         refused_start(machine, beyond, 0, Refusal::NoSuchProcess)?;
         refused(machine.step(beyond), Refusal::NoSuchProcess)?;
         for process in 0..beyond {
-            refused_start(machine, process, 0, Refusal::KeyOutOfRange)?;
-            refused_start(machine, process, u32::MAX, Refusal::KeyOutOfRange)?;
+            refused_start(machine, process, FIRST_KEY - 1, Refusal::KeyOutOfRange)?;
+            refused_start(machine, process, LAST_KEY + 1, Refusal::KeyOutOfRange)?;
             if point.watch.is_running(process) {
-                refused_start(machine, process, 1, Refusal::Busy)?;
+                refused_start(machine, process, FIRST_KEY, Refusal::Busy)?;
+                refused_start(machine, process, u32::MAX.into(), Refusal::Busy)?;
                 if spent {
                     refused(machine.step(process), Refusal::LimitSpent)?;
                 }
             } else {
                 refused(machine.step(process), Refusal::NoCallRunning)?;
                 if spent {
-                    refused_start(machine, process, u32::MAX - 1, Refusal::LimitSpent)?;
+                    refused_start(machine, process, LAST_KEY, Refusal::LimitSpent)?;
                 }
             }
         }
@@ -241,7 +243,7 @@ fn step<M: Machine>(point: &mut Point<M>, process: u32) -> Result<(), String> {
     point.watch.step(process, answer, after)
 }
 
-fn refused_start<M: Machine>(machine: &mut M, process: u32, key: u32, due: Refusal) -> Result<(), String> {
+fn refused_start<M: Machine>(machine: &mut M, process: u32, key: u64, due: Refusal) -> Result<(), String> {
     refused(machine.start(process, Call::Get { key }), due)?;
     refused(machine.start(process, Call::Put { key, value: 1, timestamp: 1, draw: 1 }), due)
 }

@@ -10,12 +10,51 @@ use crate::machine::{Machine, Recorder};
 use crate::model::*;
 use crate::random::Random;
 
-/// A key for each number: the two outermost, then spread over the whole range.
-fn key_of(number: u32) -> u32 {
-    match number {
-        0 => 1,
-        1 => u32::MAX - 1,
-        _ => number.wrapping_mul(0x9E37_79B1) % (u32::MAX - 2) + 1,
+const LAST_OF_32: u64 = u32::MAX as u64;
+
+/// The keys at both ends of 64 and of 32 bits, lawful and not.
+pub const EDGE_KEYS: [u64; 11] = [
+    FIRST_KEY - 1,
+    FIRST_KEY,
+    FIRST_KEY + 1,
+    LAST_OF_32 - 2,
+    LAST_OF_32 - 1,
+    LAST_OF_32,
+    LAST_OF_32 + 1,
+    LAST_OF_32 + 2,
+    LAST_KEY - 1,
+    LAST_KEY,
+    LAST_KEY + 1,
+];
+
+/// Few keys are wanted often, so the first ones are outer ones; of the last three each agrees in one half with another.
+const FIRST_KEYS: [u64; 5] = [FIRST_KEY, LAST_KEY, LAST_OF_32, LAST_OF_32 + 1, LAST_OF_32 + 2];
+
+/// A key for each number, another for each: the first ones, then fours spread over the whole range. In a four each key
+/// agrees in one half with the next, and the high half of its first is 0.
+pub fn key_of(number: u32) -> u64 {
+    if let Some(&key) = FIRST_KEYS.get(number as usize) {
+        return key;
+    }
+    let spread = u64::from(number / 4).wrapping_mul(0x9E37_79B9_7F4A_7C15);
+    let (low, high) = (low_half(spread), high_half(spread));
+    match number % 4 {
+        0 => key_of_halves(low, 0),
+        1 => spread,
+        2 => key_of_halves(!low, high),
+        _ => key_of_halves(!low, !high),
+    }
+}
+
+/// A key that agrees with this one in one half at least.
+pub fn near(random: &mut Random, key: u64) -> u64 {
+    let (low, high) = (low_half(key), high_half(key));
+    match random.below(5) {
+        0 => key_of_halves(low, 0),
+        1 => key_of_halves(low, high.wrapping_add(1)),
+        2 => key_of_halves(low, random.word()),
+        3 => key_of_halves(low.wrapping_sub(1), high),
+        _ => key_of_halves(random.word(), high),
     }
 }
 
@@ -87,13 +126,22 @@ fn recorded<M: Machine>(seed: u64, most: u32, build: impl FnOnce(Store) -> M) ->
 fn entry<M: Machine>(random: &mut Random, recorder: &mut Recorder<M>, process: u32, pool: u32) {
     match random.below(40) {
         0..=2 => drop(recorder.look(call(random, pool).key(), random.below(4))),
-        3 => drop(recorder.look(random.pick(&[0, u32::MAX, 12_345]), 0)),
+        3 => drop(recorder.look(stranger(random, pool), 0)),
         4 => drop(recorder.step(random.below(10))),
         5 => drop(recorder.start(random.below(10), call(random, pool))),
-        6 => drop(recorder.start(process, Call::Get { key: random.pick(&[0, u32::MAX]) })),
+        6 => drop(recorder.start(process, Call::Get { key: random.pick(&[FIRST_KEY - 1, LAST_KEY + 1]) })),
         _ if recorder.is_running(process) => drop(recorder.step(process)),
         _ => drop(recorder.start(process, call(random, pool))),
     }
+}
+
+/// A key that is not lawful, or one that the calls name seldom if ever.
+fn stranger(random: &mut Random, pool: u32) -> u64 {
+    if random.once_in(2) {
+        return random.pick(&EDGE_KEYS);
+    }
+    let key = call(random, pool).key();
+    near(random, key)
 }
 
 /// Steps round and round until no process has a call, or nothing moves any more.

@@ -6,7 +6,7 @@ mod watch;
 pub use demand3::{check, Aspect, Ending, Entry, History, Objection, Opening};
 pub use watch::Watch;
 
-use crate::model::{Answer, Call, Refusal};
+use crate::model::{lawful_key, Answer, Call, Refusal};
 use std::collections::{BTreeMap, VecDeque};
 
 /// What the ledger answers to a call.
@@ -22,7 +22,7 @@ pub struct Outcome {
 pub struct Map {
     max_keys: u32,
     max_versions: u32,
-    lists: BTreeMap<u32, VecDeque<(u32, u32)>>,
+    lists: BTreeMap<u64, VecDeque<(u32, u32)>>,
     versions: u32,
 }
 
@@ -41,7 +41,7 @@ impl Map {
         self.versions
     }
 
-    pub fn put(&mut self, key: u32, value: u32, timestamp: u32) -> Answer {
+    pub fn put(&mut self, key: u64, value: u32, timestamp: u32) -> Answer {
         let keys_full = self.keys() >= self.max_keys;
         let versions_full = self.versions >= self.max_versions;
         let answer = match self.lists.get(&key).map(|list| list[0].1) {
@@ -57,7 +57,7 @@ impl Map {
         answer
     }
 
-    pub fn get(&self, key: u32) -> Option<(u32, u32)> {
+    pub fn get(&self, key: u64) -> Option<(u32, u32)> {
         self.lists.get(&key).map(|list| list[0])
     }
 
@@ -75,8 +75,8 @@ impl Map {
     }
 
     /// What a look must answer.
-    pub fn look(&self, key: u32, back: u32) -> Result<(u32, u32), Refusal> {
-        if key == 0 || key == u32::MAX {
+    pub fn look(&self, key: u64, back: u32) -> Result<(u32, u32), Refusal> {
+        if !lawful_key(key) {
             return Err(Refusal::KeyOutOfRange);
         }
         let list = self.lists.get(&key).ok_or(Refusal::NoSuchKey)?;

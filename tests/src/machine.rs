@@ -16,7 +16,7 @@ pub trait Machine: Clone + Hash {
         self.store_mut().step(process)
     }
 
-    fn look(&self, key: u32, back: u32) -> Result<(u32, u32), Refusal> {
+    fn look(&self, key: u64, back: u32) -> Result<(u32, u32), Refusal> {
         self.store().look(key, back)
     }
 
@@ -73,7 +73,7 @@ impl<M: Machine> Recorder<M> {
         answer
     }
 
-    pub fn look(&mut self, key: u32, back: u32) -> Result<(u32, u32), Refusal> {
+    pub fn look(&mut self, key: u64, back: u32) -> Result<(u32, u32), Refusal> {
         let answer = self.machine.look(key, back);
         self.entries.push(Entry::Look { key, back, answer });
         answer

@@ -4,10 +4,12 @@
 //! call is total: whatever stands in them, it answers or refuses, and a refusal changes nothing (except that a
 //! refused [`Store::open`] leaves a closed state).
 
+mod key;
 mod read;
 mod step;
 mod words;
 
+pub use key::{high_half, key_of_halves, lawful_key, low_half, FIRST_KEY, LAST_KEY};
 pub use read::{Status, Verdict};
 pub use step::{Done, Step};
 pub use words::STATE_WORDS;
@@ -27,9 +29,10 @@ pub const MAX_LIMIT: u32 = 1_000_000_000;
 pub const COUNTS: usize = 7;
 
 // Words of a node.
-pub(crate) const KEY: usize = 0;
+pub(crate) const KEY_LOW: usize = 0;
 pub(crate) const NEWEST: usize = 1;
 pub(crate) const TOP: usize = 2;
+pub(crate) const KEY_HIGH: usize = 3;
 pub(crate) const NEXT: usize = 4;
 pub(crate) const LOCK: usize = 10;
 // Words of a version.
@@ -118,12 +121,12 @@ impl Answer {
 /// A call with its arguments, as it is started.
 #[derive(Clone, Copy, Debug, PartialEq, Eq, Hash)]
 pub enum Call {
-    Put { key: u32, value: u32, timestamp: u32, draw: u16 },
-    Get { key: u32 },
+    Put { key: u64, value: u32, timestamp: u32, draw: u16 },
+    Get { key: u64 },
 }
 
 impl Call {
-    pub fn key(self) -> u32 {
+    pub fn key(self) -> u64 {
         match self {
             Call::Put { key, .. } | Call::Get { key } => key,
         }
@@ -141,7 +144,7 @@ impl Call {
 #[derive(Clone, Copy, Debug, PartialEq, Eq, Hash)]
 pub struct Process {
     pub kind: Kind,
-    pub key: u32,
+    pub key: u64,
     pub value: u32,
     pub timestamp: u32,
     pub top: u32,
@@ -291,11 +294,11 @@ impl Store {
         Ok(())
     }
 
-    pub fn start_put(&mut self, process: u32, key: u32, value: u32, timestamp: u32, draw: u16) -> Result<u32, Refusal> {
+    pub fn start_put(&mut self, process: u32, key: u64, value: u32, timestamp: u32, draw: u16) -> Result<u32, Refusal> {
         self.start(process, Call::Put { key, value, timestamp, draw })
     }
 
-    pub fn start_get(&mut self, process: u32, key: u32) -> Result<u32, Refusal> {
+    pub fn start_get(&mut self, process: u32, key: u64) -> Result<u32, Refusal> {
         self.start(process, Call::Get { key })
     }
 
@@ -348,8 +351,9 @@ impl Store {
         self.version_table[place as usize * VERSION_WORDS + word]
     }
 
-    pub(crate) fn key(&self, node: u32) -> u32 {
-        self.node_word(node, KEY)
+    /// Of all that reads a node, this alone knows that its key has two halves.
+    pub(crate) fn key(&self, node: u32) -> u64 {
+        key_of_halves(self.node_word(node, KEY_LOW), self.node_word(node, KEY_HIGH))
     }
 
     pub(crate) fn next(&self, node: u32, level: u32) -> u32 {
@@ -385,8 +389,8 @@ fn require(holds: bool, refusal: Refusal) -> Result<(), Refusal> {
 }
 
 /// Refusal 6.
-fn check_key(key: u32) -> Result<(), Refusal> {
-    require(key != 0 && key != u32::MAX, Refusal::KeyOutOfRange)
+fn check_key(key: u64) -> Result<(), Refusal> {
+    require(lawful_key(key), Refusal::KeyOutOfRange)
 }
 
 /// The top level that a draw gives.

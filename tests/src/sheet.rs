@@ -7,11 +7,47 @@ use std::fmt::Write;
 #[derive(Clone, Copy, Debug, PartialEq, Eq)]
 pub enum Command {
     Open { keys: u16, versions: u16, processes: u8, limit: u32 },
-    Put { process: u8, key: u32, value: u32, timestamp: u32, draw: u16 },
-    Get { process: u8, key: u32 },
+    Put { process: u8, key: Key, value: u32, timestamp: u32, draw: u16 },
+    Get { process: u8, key: Key },
     Step { process: u8 },
-    Look { key: u32, back: u16 },
+    Look { key: Key, back: u16 },
     Inspect,
+}
+
+/// A key as a command carries it: in four bytes, its high half being 0, or in eight.
+#[derive(Clone, Copy, Debug, PartialEq, Eq)]
+pub enum Key {
+    Four(u32),
+    Eight(u64),
+}
+
+impl Key {
+    /// In four bytes where they hold it.
+    pub fn short(key: u64) -> Key {
+        u32::try_from(key).map_or(Key::Eight(key), Key::Four)
+    }
+
+    pub fn number(self) -> u64 {
+        match self {
+            Key::Four(key) => key.into(),
+            Key::Eight(key) => key,
+        }
+    }
+
+    /// The one of a command's two first bytes that says this width.
+    fn first(self, four: u8, eight: u8) -> u8 {
+        match self {
+            Key::Four(_) => four,
+            Key::Eight(_) => eight,
+        }
+    }
+
+    fn encode(self, bytes: &mut Vec<u8>) {
+        match self {
+            Key::Four(key) => bytes.extend(key.to_be_bytes()),
+            Key::Eight(key) => bytes.extend(key.to_be_bytes()),
+        }
+    }
 }
 
 pub const OPEN: u8 = 0x4F;
@@ -20,15 +56,32 @@ pub const GET: u8 = 0x47;
 pub const STEP: u8 = 0x53;
 pub const LOOK: u8 = 0x4C;
 pub const INSPECT: u8 = 0x49;
+// The same with a key of eight bytes.
+pub const PUT_EIGHT: u8 = 0x70;
+pub const GET_EIGHT: u8 = 0x67;
+pub const LOOK_EIGHT: u8 = 0x6C;
+
+/// Every command by its first byte, with the count of its bytes, this one included.
+pub const COMMANDS: [(u8, usize); 9] = [
+    (OPEN, 10),
+    (PUT, 16),
+    (GET, 6),
+    (STEP, 2),
+    (LOOK, 7),
+    (INSPECT, 1),
+    (PUT_EIGHT, 20),
+    (GET_EIGHT, 10),
+    (LOOK_EIGHT, 11),
+];
 
 /// Takes big-endian numbers from the front of the operands; nothing when they run out.
 struct Operands<'a>(&'a [u8]);
 
 impl Operands<'_> {
-    fn take(&mut self, width: usize) -> Option<u32> {
+    fn take(&mut self, width: usize) -> Option<u64> {
         let (number, rest) = self.0.split_at_checked(width)?;
         self.0 = rest;
-        Some(number.iter().fold(0, |sum, &byte| sum << 8 | byte as u32))
+        Some(number.iter().fold(0, |sum, &byte| sum << 8 | u64::from(byte)))
     }
 
     fn byte(&mut self) -> Option<u8> {
@@ -40,7 +93,16 @@ impl Operands<'_> {
     }
 
     fn word(&mut self) -> Option<u32> {
-        self.take(4)
+        self.take(4).map(|number| number as u32)
+    }
+
+    /// The key of a command with this first byte.
+    fn key(&mut self, first: u8) -> Option<Key> {
+        if [PUT_EIGHT, GET_EIGHT, LOOK_EIGHT].contains(&first) {
+            self.take(8).map(Key::Eight)
+        } else {
+            self.word().map(Key::Four)
+        }
     }
 
     fn command(&mut self, first: u8) -> Option<Command> {
@@ -51,16 +113,16 @@ impl Operands<'_> {
                 processes: self.byte()?,
                 limit: self.word()?,
             },
-            PUT => Command::Put {
+            PUT | PUT_EIGHT => Command::Put {
                 process: self.byte()?,
-                key: self.word()?,
+                key: self.key(first)?,
                 value: self.word()?,
                 timestamp: self.word()?,
                 draw: self.half()?,
             },
-            GET => Command::Get { process: self.byte()?, key: self.word()? },
+            GET | GET_EIGHT => Command::Get { process: self.byte()?, key: self.key(first)? },
             STEP => Command::Step { process: self.byte()? },
-            LOOK => Command::Look { key: self.word()?, back: self.half()? },
+            LOOK | LOOK_EIGHT => Command::Look { key: self.key(first)?, back: self.half()? },
             _ => Command::Inspect,
         })
     }
@@ -70,7 +132,7 @@ impl Command {
     /// The first command and the bytes behind it. Refusals 15, 16; `bytes` is not empty.
     pub fn decode(bytes: &[u8]) -> Result<(Command, &[u8]), Refusal> {
         let (first, operands) = (bytes[0], &bytes[1..]);
-        if ![OPEN, PUT, GET, STEP, LOOK, INSPECT].contains(&first) {
+        if !COMMANDS.iter().any(|&(known, _)| known == first) {
             return Err(Refusal::UnknownByte);
         }
         let mut operands = Operands(operands);
@@ -88,18 +150,19 @@ impl Command {
                 bytes.extend(limit.to_be_bytes());
             }
             Command::Put { process, key, value, timestamp, draw } => {
-                bytes.extend([PUT, process]);
-                [key, value, timestamp].iter().for_each(|word| bytes.extend(word.to_be_bytes()));
+                bytes.extend([key.first(PUT, PUT_EIGHT), process]);
+                key.encode(bytes);
+                [value, timestamp].iter().for_each(|word| bytes.extend(word.to_be_bytes()));
                 bytes.extend(draw.to_be_bytes());
             }
             Command::Get { process, key } => {
-                bytes.extend([GET, process]);
-                bytes.extend(key.to_be_bytes());
+                bytes.extend([key.first(GET, GET_EIGHT), process]);
+                key.encode(bytes);
             }
             Command::Step { process } => bytes.extend([STEP, process]),
             Command::Look { key, back } => {
-                bytes.push(LOOK);
-                bytes.extend(key.to_be_bytes());
+                bytes.push(key.first(LOOK, LOOK_EIGHT));
+                key.encode(bytes);
                 bytes.extend(back.to_be_bytes());
             }
             Command::Inspect => bytes.push(INSPECT),
@@ -143,15 +206,16 @@ impl Sheet {
         let store = self.store.as_mut().ok_or(Refusal::NotOpened)?;
         match command {
             Command::Put { process, key, value, timestamp, draw } => {
-                let tick = store.start_put(process.into(), key, value, timestamp, draw)?;
+                let tick = store.start_put(process.into(), key.number(), value, timestamp, draw)?;
                 Ok(format!("start {process} {tick}"))
             }
             Command::Get { process, key } => {
-                let tick = store.start_get(process.into(), key)?;
+                let tick = store.start_get(process.into(), key.number())?;
                 Ok(format!("start {process} {tick}"))
             }
             Command::Step { process } => store.step(process.into()).map(|step| step_line(process, step)),
             Command::Look { key, back } => {
+                let key = key.number();
                 let (value, timestamp) = store.look(key, back.into())?;
                 Ok(format!("look {key} {back} {value} {timestamp}"))
             }

@@ -12,11 +12,15 @@
 //! bytes 0xFF 1 2         raw bytes: what no command says
 //! ```
 //!
-//! (The words on the right are no part of the lines.) [`write`] makes bytes of lines, [`explain`] lines of bytes;
-//! `write(&explain(bytes))` gives `bytes` back, whatever they are.
+//! (The words on the right are no part of the lines.) `put`, `get` and `look` take any tray number of 64 bits: in the
+//! four-byte command where four bytes hold it, else in the eight-byte one. `put8`, `get8` and `look8` are always the
+//! eight-byte command.
+//!
+//! [`write`] makes bytes of lines, [`explain`] lines of bytes; `write(&explain(bytes))` gives `bytes` back, whatever
+//! they are. So a line of `explain` has the 8 exactly where the command has eight bytes for a tray that four would hold.
 
 use crate::model::Refusal;
-use crate::sheet::Command;
+use crate::sheet::{Command, Key};
 
 /// Most steps that one line may ask for.
 pub const MOST_STEPS: u64 = 1_000_000;
@@ -64,14 +68,14 @@ fn write_line(words: &[&str], bytes: &mut Vec<u8>) -> Result<(), String> {
                 limit: limit as u32,
             }
         }
-        "put" => {
+        "put" | "put8" => {
             let [process, key, value, timestamp, draw] = numbers(word, operands, [STATION, TRAY, VALUE, STAMP, DRAW])?;
-            let (key, value, timestamp) = (key as u32, value as u32, timestamp as u32);
+            let (key, value, timestamp) = (carried(word, key), value as u32, timestamp as u32);
             Command::Put { process: process as u8, key, value, timestamp, draw: draw as u16 }
         }
-        "get" => {
+        "get" | "get8" => {
             let [process, key] = numbers(word, operands, [STATION, TRAY])?;
-            Command::Get { process: process as u8, key: key as u32 }
+            Command::Get { process: process as u8, key: carried(word, key) }
         }
         "step" => Command::Step { process: numbers(word, operands, [STATION])?[0] as u8 },
         "steps" => {
@@ -79,16 +83,33 @@ fn write_line(words: &[&str], bytes: &mut Vec<u8>) -> Result<(), String> {
             (0..times).for_each(|_| Command::Step { process: process as u8 }.encode(bytes));
             return Ok(());
         }
-        "look" => {
+        "look" | "look8" => {
             let [key, back] = numbers(word, operands, [TRAY, BACK])?;
-            Command::Look { key: key as u32, back: back as u16 }
+            Command::Look { key: carried(word, key), back: back as u16 }
         }
         "inspect" => numbers(word, operands, []).map(|[]| Command::Inspect)?,
         "bytes" => return write_bytes(operands, bytes),
-        _ => return Err(format!("unknown word \"{word}\" (known: open put get step steps look inspect bytes)")),
+        _ => return Err(format!("unknown word \"{word}\" (known: {KNOWN})")),
     };
     command.encode(bytes);
     Ok(())
+}
+
+const KNOWN: &str = "open put put8 get get8 step steps look look8 inspect bytes";
+
+/// The key in the width that the word asks for.
+fn carried(word: &str, key: u64) -> Key {
+    if word.ends_with('8') {
+        Key::Eight(key)
+    } else {
+        Key::short(key)
+    }
+}
+
+/// The word that asks for the key's width: `carried` backwards.
+fn asking(word: &str, key: Key) -> String {
+    let eight = if key == Key::short(key.number()) { "" } else { "8" };
+    format!("{word}{eight}")
 }
 
 fn write_bytes(operands: &[&str], bytes: &mut Vec<u8>) -> Result<(), String> {
@@ -104,7 +125,7 @@ const READINGS: Operand = ("readings", 0xFFFF);
 const STATIONS: Operand = ("stations", 0xFF);
 const LIMIT: Operand = ("limit", 0xFFFF_FFFF);
 const STATION: Operand = ("station", 0xFF);
-const TRAY: Operand = ("tray", 0xFFFF_FFFF);
+const TRAY: Operand = ("tray", u64::MAX);
 const VALUE: Operand = ("value", 0xFFFF_FFFF);
 const STAMP: Operand = ("stamp", 0xFFFF_FFFF);
 const DRAW: Operand = ("draw", 0xFFFF);
@@ -126,13 +147,14 @@ fn numbers<const N: usize>(word: &str, given: &[&str], operands: [Operand; N]) -
 }
 
 fn number(word: &str, (name, greatest): Operand) -> Result<u64, String> {
+    // Wider than any operand, so that one a little too great is told as that.
     let read = match word.strip_prefix("0x") {
-        Some(digits) if !digits.starts_with('+') => u64::from_str_radix(digits, 16),
+        Some(digits) if !digits.starts_with('+') => u128::from_str_radix(digits, 16),
         None if !word.starts_with('+') => word.parse(),
         _ => "+".parse(),
     };
     match read {
-        Ok(number) if number <= greatest => Ok(number),
+        Ok(number) if number <= greatest.into() => Ok(number as u64),
         Ok(number) => Err(format!("{name} {number} is above {greatest}")),
         Err(_) => Err(format!("{name} \"{word}\" is not a number (decimal or 0x, no sign)")),
     }
@@ -166,11 +188,11 @@ fn line(command: Command) -> String {
     match command {
         Command::Open { keys, versions, processes, limit } => format!("open {keys} {versions} {processes} {limit}"),
         Command::Put { process, key, value, timestamp, draw } => {
-            format!("put {process} {key} {value} {timestamp} {draw}")
+            format!("{} {process} {} {value} {timestamp} {draw}", asking("put", key), key.number())
         }
-        Command::Get { process, key } => format!("get {process} {key}"),
+        Command::Get { process, key } => format!("{} {process} {}", asking("get", key), key.number()),
         Command::Step { process } => format!("step {process}"),
-        Command::Look { key, back } => format!("look {key} {back}"),
+        Command::Look { key, back } => format!("{} {} {back}", asking("look", key), key.number()),
         Command::Inspect => "inspect".to_string(),
     }
 }

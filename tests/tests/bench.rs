@@ -19,7 +19,7 @@ fn finish(store: &mut Store, process: u32) -> (u32, Done) {
     unreachable!()
 }
 
-fn put(store: &mut Store, key: u32, timestamp: u32) -> Answer {
+fn put(store: &mut Store, key: u64, timestamp: u32) -> Answer {
     store.start_put(0, key, 250, timestamp, 1).unwrap();
     finish(store, 0).1.answer
 }
@@ -117,9 +117,11 @@ fn two_puts_of_one_new_key() {
 
 #[test]
 fn outermost_keys_start() {
-    let mut store = opened(2, 3, 2, 40);
-    assert_eq!(store.start_get(0, 1), Ok(1));
-    assert_eq!(store.start_put(1, 4_294_967_294, 1, 1, 1), Ok(2));
+    for last in [4_294_967_294, 4_294_967_295, 18_446_744_073_709_551_614] {
+        let mut store = opened(2, 3, 2, 40);
+        assert_eq!(store.start_get(0, 1), Ok(1));
+        assert_eq!(store.start_put(1, last, 1, 1, 1), Ok(2));
+    }
 }
 
 #[test]

@@ -5,11 +5,11 @@ use store_tests::explore::{explore, Memo, Report, Scope};
 use store_tests::ledger::Opening;
 use store_tests::model::{Call, MAX_LIMIT};
 
-fn put(key: u32, timestamp: u32, draw: u16) -> Call {
-    Call::Put { key, value: key * 100 + timestamp * 10 + draw as u32, timestamp, draw }
+fn put(key: u64, timestamp: u32, draw: u16) -> Call {
+    Call::Put { key, value: (key % 1_000) as u32 * 100 + timestamp * 10 + draw as u32, timestamp, draw }
 }
 
-fn get(key: u32) -> Call {
+fn get(key: u64) -> Call {
     Call::Get { key }
 }
 
@@ -110,6 +110,40 @@ fn every_triple_of_some_calls() {
 fn three_processes_on_a_filled_store() {
     let first = [put(5, 2, 2)];
     println!("{:?}", run(&scope(4, 5, &first, &[&[put(5, 2, 1), get(3)], &[put(3, 2, 2)], &[put(5, 3, 4)]])));
+}
+
+/// Keys that differ in one half only. By their numbers: 5, 2^32 - 1, 2^32, 2^32 + 5; by their low halves alone 5 and
+/// 2^32 + 5 are one, and 2^32 is the least.
+const SHORT: u64 = 5;
+const LAST_OF_32: u64 = 0xFFFF_FFFF;
+const FIRST_BEYOND: u64 = 1 << 32;
+const SAME_LOW: u64 = FIRST_BEYOND + SHORT;
+
+/// Two processes with one call each, on a store that has a key of 32 bits and one above: every pair of calls.
+#[test]
+fn every_pair_of_calls_on_keys_that_agree_in_one_half() {
+    let first = [put(LAST_OF_32, 5, 1), put(SAME_LOW, 5, 2)];
+    let keys = [SHORT, LAST_OF_32, FIRST_BEYOND, SAME_LOW];
+    let calls: Vec<Call> = keys.iter().flat_map(|&key| [get(key), put(key, 5, 1), put(key, 6, 4)]).collect();
+    let mut total = 0;
+    for (place, &one) in calls.iter().enumerate() {
+        for &other in &calls[place..] {
+            total += run(&scope(4, 4, &first, &[&[one], &[other]])).points;
+        }
+    }
+    println!("{} calls, {total} points", calls.len());
+}
+
+#[test]
+fn three_processes_on_keys_that_agree_in_one_half() {
+    let triples: [[Call; 3]; 3] = [
+        [put(SHORT, 2, 2), put(SAME_LOW, 2, 2), put(FIRST_BEYOND, 2, 2)],
+        [put(SHORT, 2, 4), put(SAME_LOW, 2, 2), get(SAME_LOW)],
+        [put(LAST_OF_32, 2, 4), put(FIRST_BEYOND, 2, 1), get(FIRST_BEYOND)],
+    ];
+    for [one, two, three] in triples {
+        println!("{:?}", run(&scope(3, 4, &[], &[&[one], &[two], &[three]])));
+    }
 }
 
 #[test]

@@ -39,5 +39,7 @@ fn looks_go_back() {
     assert_eq!([map.look(7, 0), map.look(7, 1)], [Ok((2, 101)), Ok((1, 100))]);
     assert_eq!(map.look(7, 2), Err(Refusal::FewerVersions));
     assert_eq!(map.look(8, 0), Err(Refusal::NoSuchKey));
-    assert_eq!([map.look(0, 0), map.look(u32::MAX, 0)], [Err(Refusal::KeyOutOfRange); 2]);
+    assert_eq!([map.look(0, 0), map.look(u64::MAX, 0)], [Err(Refusal::KeyOutOfRange); 2]);
+    assert_eq!(map.look(u64::MAX - 1, 0), Err(Refusal::NoSuchKey));
+    assert_eq!(map.look((1 << 32) + 7, 0), Err(Refusal::NoSuchKey), "another key of the same low half");
 }

@@ -7,15 +7,15 @@ use store_tests::model::*;
 fn store() -> Store {
     let mut store = Store::closed(3, 4);
     store.open(2, 1_000).unwrap();
-    for (key, draw) in [(4, 2), (8, 1)] {
-        store.start_put(0, key, key * 10, 100, draw).unwrap();
+    for (key, value, draw) in [(4, 40, 2), (8, 80, 1)] {
+        store.start_put(0, key, value, 100, draw).unwrap();
         while !matches!(store.step(0).unwrap(), Step::Done(_)) {}
     }
     store
 }
 
 /// The same with a put of process 0 at some phase; p is node 0, level 0.
-fn put_at(phase: Phase, key: u32) -> Store {
+fn put_at(phase: Phase, key: u64) -> Store {
     let mut store = store();
     store.start_put(0, key, 1, 100, 4).unwrap();
     store.state.process[0].phase = phase;
@@ -92,7 +92,7 @@ fn start_is_refused_10_5_6_7_9_in_order() {
     let before = store.clone();
     assert_eq!(store.start_get(0, 4), Err(Refusal::LimitSpent));
     assert_eq!(store.start_put(1, 4, 1, 1, 1), Err(Refusal::Busy));
-    for key in [0, u32::MAX] {
+    for key in [0, u64::MAX] {
         assert_eq!(store.start_get(1, key), Err(Refusal::KeyOutOfRange));
         assert_eq!(store.start_put(2, key, 1, 1, 1), Err(Refusal::NoSuchProcess));
     }
@@ -292,8 +292,8 @@ fn look_is_refused_10_6_12_11_13_in_order() {
     store.start_put(0, 4, 41, 100, 1).unwrap();
     while !matches!(store.step(0).unwrap(), Step::Done(_)) {}
     assert_eq!([store.look(4, 0), store.look(4, 1), store.look(8, 0)], [Ok((41, 100)), Ok((40, 100)), Ok((80, 100))]);
-    assert_eq!([store.look(0, 9), store.look(u32::MAX, 9)], [Err(Refusal::KeyOutOfRange); 2]);
-    assert_eq!(store.look(5, 0), Err(Refusal::NoSuchKey));
+    assert_eq!([store.look(0, 9), store.look(u64::MAX, 9)], [Err(Refusal::KeyOutOfRange); 2]);
+    assert_eq!([store.look(5, 0), store.look(u32::MAX.into(), 0)], [Err(Refusal::NoSuchKey); 2]);
     assert_eq!([store.look(4, 2), store.look(4, u32::MAX)], [Err(Refusal::FewerVersions); 2]);
     store.version_table[3 * 3 + 2] = 3;
     assert_eq!(store.look(4, 0), Ok((41, 100)), "the newest needs no previous place");
@@ -316,7 +316,7 @@ fn inspection_is_refused_7_below_the_count_only() {
 
 #[test]
 fn inspection_names_level_and_node() {
-    let changes: [(u32, u32, Change); 18] = [
+    let changes: [(u32, u32, Change); 22] = [
         (0, 0, |s| s.node_table[10] = 1),
         (5, 0, |s| s.node_table[15] = 9),
         (0, 2, |s| s.node_table[32 + 10] = 1),
@@ -330,6 +330,10 @@ fn inspection_names_level_and_node() {
         (0, 2, |s| s.node_table[36] = 2),
         (0, 0, |s| s.node_table[16] = 0),
         (0, 0, |s| s.node_table[0] = 4),
+        (0, 0, |s| s.node_table[3] = 1),
+        (0, 1, |s| s.node_table[19] = 1),
+        (0, 1, |s| s.node_table[19] = u32::MAX),
+        (1, 0, |s| (s.node_table[18], s.node_table[35]) = (0, 1)),
         (0, 1, |s| s.node_table[20] = 0),
         (1, 0, |s| s.node_table[18] = 0),
         (1, 0, |s| s.node_table[5] = 0),

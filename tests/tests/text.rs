@@ -13,7 +13,8 @@ fn example_is_explained() {
 #[test]
 fn every_line_comes_back() {
     let lines = "open 65535 65535 255 4294967295\nput 255 4294967295 4294967295 0 65535\nget 0 0\nstep 3\nsteps 4 2\n\
-                 look 0 65535\ninspect\nbytes 0x00 0xFF 0x4F # an unknown byte ends the run\n";
+                 look 0 65535\nput8 255 4294967295 4294967295 0 65535\nget8 0 0\nlook8 7 65535\n\
+                 put 1 4294967296 2 3 4\nget 1 18446744073709551615\nlook 18446744073709551614 0\ninspect\nbytes 0x00 0xFF 0x4F # an unknown byte ends the run\n";
     assert_eq!(explain(&write(lines).unwrap()), lines);
 }
 
@@ -35,7 +36,7 @@ fn random_sheets_come_back() {
 fn random_bytes_come_back() {
     for seed in 0..2_000 {
         let mut random = Random::new(seed);
-        let bytes: Vec<u8> = (0..random.below(40)).map(|_| random.pick(b"OPGSLI\0\0\x01\xFF")).collect();
+        let bytes: Vec<u8> = (0..random.below(40)).map(|_| random.pick(b"OPGSLIpgl\0\0\0\x01\xFF")).collect();
         assert_eq!(write(&explain(&bytes)), Ok(bytes), "seed {seed}");
     }
 }
@@ -44,20 +45,25 @@ fn random_bytes_come_back() {
 fn bad_lines_are_all_told() {
     let lines =
         "open 2 3 1\nopen 2 3 1 40\nputt 0\nstep 256\n# fine\nget 0 -7\nlook 7 +1\ninspect 0\nsteps 0 1000001\n\
-                 put 0 4294967296 1 1 1\nget 0 0x\nbytes 256\nopen 99999999999999999999 1 1 1";
+                 put 0 18446744073709551616 1 1 1\nget 0 0x\nbytes 256\nopen 99999999999999999999 1 1 1\n\
+                 look8 0x10000000000000000 0\nget8 1\nget 0 9999999999999999999999999999999999999999\nstep8 0";
     let told: Vec<String> = write(lines).unwrap_err().iter().map(|bad| bad.to_string()).collect();
     let due = [
         "line 1: open takes trays readings stations limit; 3 given",
-        "line 3: unknown word \"putt\" (known: open put get step steps look inspect bytes)",
+        "line 3: unknown word \"putt\" (known: open put put8 get get8 step steps look look8 inspect bytes)",
         "line 4: station 256 is above 255",
         "line 6: tray \"-7\" is not a number (decimal or 0x, no sign)",
         "line 7: back \"+1\" is not a number (decimal or 0x, no sign)",
         "line 8: inspect takes no numbers; 1 given",
         "line 9: times 1000001 is above 1000000",
-        "line 10: tray 4294967296 is above 4294967295",
+        "line 10: tray 18446744073709551616 is above 18446744073709551615",
         "line 11: tray \"0x\" is not a number (decimal or 0x, no sign)",
         "line 12: byte 256 is above 255",
-        "line 13: trays \"99999999999999999999\" is not a number (decimal or 0x, no sign)",
+        "line 13: trays 99999999999999999999 is above 65535",
+        "line 14: tray 18446744073709551616 is above 18446744073709551615",
+        "line 15: get8 takes station tray; 1 given",
+        "line 16: tray \"9999999999999999999999999999999999999999\" is not a number (decimal or 0x, no sign)",
+        "line 17: unknown word \"step8\" (known: open put put8 get get8 step steps look look8 inspect bytes)",
     ];
     assert_eq!(told, due);
 }

@@ -1,5 +1,5 @@
 //! `compare PROGRAM`: random sheets through another sheet program and through the model, byte for byte.
-//! `compare --kinds`: how many lines of each kind these sheets print. Exit status 1 at the first difference.
+//! `compare --kinds`: how many lines and keys of each kind these sheets have. Exit status 1 at the first difference.
 
 use std::fmt::Display;
 use std::io::{self, Write};
@@ -7,7 +7,7 @@ use std::ops::Range;
 use std::process::ExitCode;
 use std::time::Instant;
 use store_tests::compare::{self, Kinds, Program};
-use store_tests::{generate, sheet};
+use store_tests::generate;
 
 const USAGE: &str = "usage: compare PROGRAM [--sheets N] [--from SEED] [--pieces]
        compare --kinds [--sheets N] [--from SEED]";
@@ -75,7 +75,7 @@ fn compare_with(program: &Program, seeds: Range<u64>, pieces: bool) -> ExitCode 
 
 fn tell_kinds(seeds: Range<u64>) -> ExitCode {
     let mut kinds = Kinds::default();
-    seeds.for_each(|seed| kinds.count(&sheet::run(&generate::sheet(seed))));
+    seeds.for_each(|seed| kinds.count(&generate::sheet(seed)));
     tell(kinds);
     ExitCode::SUCCESS
 }

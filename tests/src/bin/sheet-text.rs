@@ -7,7 +7,8 @@ use store_tests::text;
 
 const USAGE: &str = "usage: sheet-text write|explain [FILE]
 lines: open TRAYS READINGS STATIONS LIMIT | put STATION TRAY VALUE STAMP DRAW | get STATION TRAY
-       step STATION | steps STATION TIMES | look TRAY BACK | inspect | bytes BYTE... | # comment";
+       step STATION | steps STATION TIMES | look TRAY BACK | inspect | bytes BYTE... | # comment
+       put8, get8, look8: the eight-byte command also where four bytes hold the tray";
 
 fn main() -> ExitCode {
     let given: Vec<String> = std::env::args().skip(1).collect();

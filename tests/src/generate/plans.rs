@@ -1,9 +1,9 @@
 //! The plans of random sheets, each a function. A seed gives a plan (see [`SHARES`]) and all that is random in it.
 
-use super::key_of;
 use super::writer::Writer;
+use super::{key_of, EDGE_KEYS};
 use crate::model::*;
-use crate::sheet::{self, Command};
+use crate::sheet::{Command, COMMANDS};
 
 /// What a sheet is made to reach.
 #[derive(Clone, Copy, Debug, PartialEq, Eq, PartialOrd, Ord)]
@@ -18,6 +18,7 @@ pub enum Plan {
     CutShort,
     UnknownByte,
     OuterKeys,
+    Halves,
     Large,
     Filled,
     DeepChain,
@@ -28,9 +29,9 @@ pub enum Plan {
 }
 
 /// Each plan's share of [`ROUND`] seeds in a row; the plans with large sheets have small shares.
-pub const SHARES: [(Plan, u64); 17] = [
-    (Plan::Tiny, 6),
-    (Plan::Crowded, 8),
+pub const SHARES: [(Plan, u64); 18] = [
+    (Plan::Tiny, 5),
+    (Plan::Crowded, 6),
     (Plan::Middling, 5),
     (Plan::ManyOpens, 6),
     (Plan::OpenEdges, 1),
@@ -39,6 +40,7 @@ pub const SHARES: [(Plan, u64); 17] = [
     (Plan::CutShort, 9),
     (Plan::UnknownByte, 8),
     (Plan::OuterKeys, 5),
+    (Plan::Halves, 3),
     (Plan::Large, 1),
     (Plan::Filled, 1),
     (Plan::DeepChain, 1),
@@ -78,6 +80,7 @@ pub fn sheet(seed: u64) -> Vec<u8> {
         Plan::CutShort => cut_short(&mut writer, which),
         Plan::UnknownByte => unknown_byte(&mut writer, which),
         Plan::OuterKeys => outer_keys(&mut writer),
+        Plan::Halves => halves(&mut writer),
         Plan::Large => large(&mut writer),
         Plan::Filled => filled(&mut writer, which),
         Plan::DeepChain => deep_chain(&mut writer),
@@ -101,6 +104,11 @@ pub fn long_sheet(seed: u64, commands: u32) -> Vec<u8> {
     let mut writer = Writer::new(seed);
     long(&mut writer, commands);
     writer.bytes
+}
+
+/// Bytes of the longest command.
+fn longest_command() -> usize {
+    COMMANDS.iter().map(|&(_, bytes)| bytes).max().unwrap_or(1)
 }
 
 /// Tables that are full very soon.
@@ -170,9 +178,9 @@ fn open_edges(writer: &mut Writer) {
 fn noise(writer: &mut Writer) {
     writer.open(2, 3, 2, 500);
     for _ in 0..300 {
-        let first = writer.random.pick(b"OPGSSSSSSLI");
+        let first = writer.random.pick(b"OPpGgSSSSSSSSLlI");
         let mut bytes = vec![first];
-        for _ in 0..15 {
+        for _ in 1..longest_command() {
             bytes.push(if writer.random.once_in(3) { writer.random.below(3) as u8 } else { 0 });
         }
         if let Ok((command, _)) = Command::decode(&bytes) {
@@ -212,9 +220,8 @@ fn beginning(writer: &mut Writer, which: u64) {
 
 /// Ends within a command: in turn each command with each count of its bytes, behind each beginning.
 fn cut_short(writer: &mut Writer, which: u64) {
-    let widths = [(sheet::OPEN, 10), (sheet::PUT, 16), (sheet::GET, 6), (sheet::STEP, 2), (sheet::LOOK, 7)];
     let cuts: Vec<(u8, usize)> =
-        widths.iter().flat_map(|&(first, all)| (1..all).map(move |kept| (first, kept))).collect();
+        COMMANDS.iter().flat_map(|&(first, all)| (1..all).map(move |kept| (first, kept))).collect();
     let cases = cuts.len() as u64;
     let (first, kept) = cuts[(which % cases) as usize];
     beginning(writer, which / cases);
@@ -227,7 +234,7 @@ fn cut_short(writer: &mut Writer, which: u64) {
 
 /// In turn each unknown byte in first, last and middle place.
 fn unknown_byte(writer: &mut Writer, which: u64) {
-    let unknown: Vec<u8> = (0..=255).filter(|byte| !b"OPGSLI".contains(byte)).collect();
+    let unknown: Vec<u8> = (0..=255).filter(|&byte| COMMANDS.iter().all(|&(known, _)| known != byte)).collect();
     let byte = unknown[(which % unknown.len() as u64) as usize];
     let (before, behind) = [(false, true), (true, false), (true, true)][(which % 3) as usize];
     if before {
@@ -241,17 +248,31 @@ fn unknown_byte(writer: &mut Writer, which: u64) {
     }
 }
 
-/// The keys at both ends of the range, lawful and not.
+/// The keys at both ends of 64 and of 32 bits, lawful and not.
 fn outer_keys(writer: &mut Writer) {
+    let keys = writer.random.within(1, 8);
+    among(writer, (keys, 12), 600, &EDGE_KEYS);
+}
+
+/// Keys of two or three low and as many high halves: each has others that differ from it in one half only.
+fn halves(writer: &mut Writer) {
+    let edges = [0, 1, 5, 1 << 31, u32::MAX - 1, u32::MAX];
+    let lows = [writer.random.pick(&edges), writer.random.word(), 5];
+    let highs = [0, writer.random.word(), writer.random.pick(&edges)];
+    let keys: Vec<u64> = lows.iter().flat_map(|&low| highs.map(|high| key_of_halves(low, high))).collect();
+    among(writer, (8, 60), 1_500, &keys);
+}
+
+/// So many commands of some processes on these keys, on a store that holds so many keys and versions.
+fn among(writer: &mut Writer, held: (u32, u32), commands: u32, keys: &[u64]) {
     let processes = writer.random.within(1, 4);
-    let keys = writer.random.within(1, 5);
-    writer.open(keys, 12, processes, MAX_LIMIT);
-    for _ in 0..400 {
-        let key = writer.random.pick(&[0, 1, 2, u32::MAX - 2, u32::MAX - 1, u32::MAX]);
+    writer.open(held.0, held.1, processes, MAX_LIMIT);
+    for _ in 0..commands {
+        let key = writer.random.pick(keys);
         let process = writer.next_process();
         if writer.random.once_in(20) {
-            let back = writer.random.below(3) as u16;
-            writer.add(Command::Look { key, back });
+            let back = writer.random.below(3);
+            writer.look(key, back);
         } else if !writer.step_if_running(process) {
             writer.start_on(process, key, (0, 3));
         }
@@ -271,7 +292,7 @@ fn filled(writer: &mut Writer, which: u64) {
         }
         started += 1;
         let (key, value, draw) = (key_of(started * 7 % pool), writer.random.word(), writer.random.word() as u16);
-        writer.add(Command::Put { process: process as u8, key, value, timestamp: started, draw });
+        writer.put(process, key, value, started, draw);
     }
     for _ in 0..3_000 {
         writer.any(50, pool);
@@ -291,9 +312,9 @@ fn deep_chain(writer: &mut Writer) {
     }
     for _ in 0..300 {
         let key = key_of(writer.random.below(keys));
-        let middle = writer.random.below(MAX_VERSIONS) as u16;
-        let back = writer.random.pick(&[0, 1, 4_093, 4_094, 4_095, 4_096, u16::MAX, middle]);
-        writer.add(Command::Look { key, back });
+        let middle = writer.random.below(MAX_VERSIONS);
+        let back = writer.random.pick(&[0, 1, 4_093, 4_094, 4_095, 4_096, 65_535, middle]);
+        writer.look(key, back);
         writer.any(50, keys + 1);
     }
 }
@@ -302,11 +323,11 @@ fn deep_chain(writer: &mut Writer) {
 fn long_lines(writer: &mut Writer) {
     writer.open(MAX_KEYS, 300, 8, MAX_LIMIT);
     for _ in 0..40_000 {
-        let key = u32::MAX - 1 - writer.random.below(150);
+        let key = LAST_KEY - u64::from(writer.random.below(150));
         let process = writer.next_process();
         if writer.random.once_in(10) {
-            let back = writer.random.below(3) as u16;
-            writer.add(Command::Look { key, back });
+            let back = writer.random.below(3);
+            writer.look(key, back);
         } else if !writer.step_if_running(process) {
             writer.start_on(process, key, (u32::MAX - 3, u32::MAX));
         }
@@ -320,7 +341,7 @@ fn short_commands(writer: &mut Writer, which: u64) {
         1 => writer.open(2, 3, 1, 90),
         _ => {
             writer.open(2, 3, 1, 90);
-            writer.add(Command::Get { process: 0, key: 7 });
+            writer.get(0, 7);
         }
     }
     for _ in 0..writer.random.within(60_000, 140_000) {
@@ -334,11 +355,11 @@ fn buffer_edges(writer: &mut Writer, which: u64) {
     let size = powers[(which % powers.len() as u64) as usize] + writer.random.within(0, 34) - 17;
     let size = size as usize;
     writer.open(3, 200, 4, MAX_LIMIT);
-    while writer.bytes.len() < size - 16 {
+    while writer.bytes.len() < size - longest_command() {
         writer.any(1_000, 4);
     }
     if writer.random.once_in(2) {
-        (0..16).for_each(|_| writer.any(1_000, 4));
+        (0..longest_command()).for_each(|_| writer.any(1_000, 4));
     }
     while writer.bytes.len() < size {
         writer.add(Command::Inspect);

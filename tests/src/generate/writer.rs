@@ -1,10 +1,10 @@
 //! A sheet being written, command by command. The model runs beside it, only to know which processes have a call, so
 //! that most commands are accepted.
 
-use super::{call, draw};
+use super::{call, draw, near, EDGE_KEYS};
 use crate::model::*;
 use crate::random::Random;
-use crate::sheet::{Command, Sheet};
+use crate::sheet::{Command, Key, Sheet};
 
 pub struct Writer {
     pub random: Random,
@@ -22,6 +22,30 @@ impl Writer {
     pub fn add(&mut self, command: Command) {
         command.encode(&mut self.bytes);
         let _ = self.sheet.perform(command);
+    }
+
+    /// The key in a width that holds it: at times in eight bytes though four would do.
+    fn carried(&mut self, key: u64) -> Key {
+        if self.random.once_in(3) {
+            Key::Eight(key)
+        } else {
+            Key::short(key)
+        }
+    }
+
+    pub fn put(&mut self, process: u32, key: u64, value: u32, timestamp: u32, draw: u16) {
+        let key = self.carried(key);
+        self.add(Command::Put { process: process as u8, key, value, timestamp, draw });
+    }
+
+    pub fn get(&mut self, process: u32, key: u64) {
+        let key = self.carried(key);
+        self.add(Command::Get { process: process as u8, key });
+    }
+
+    pub fn look(&mut self, key: u64, back: u32) {
+        let key = self.carried(key);
+        self.add(Command::Look { key, back: back as u16 });
     }
 
     pub fn open(&mut self, keys: u32, versions: u32, processes: u32, limit: u32) {
@@ -56,12 +80,12 @@ impl Writer {
     fn usual(&mut self, pool: u32) {
         if self.random.once_in(15) {
             let key = call(&mut self.random, pool).key();
-            let back = self.random.below(4) as u16;
-            return self.add(Command::Look { key, back });
+            let back = self.random.below(4);
+            return self.look(key, back);
         }
         let process = self.next_process();
         if !self.step_if_running(process) {
-            self.start(process as u8, pool);
+            self.start(process, pool);
         }
     }
 
@@ -97,42 +121,47 @@ impl Writer {
         self.sheet.store.as_ref().map(|store| store.state.versions)
     }
 
-    pub fn start(&mut self, process: u8, pool: u32) {
+    pub fn start(&mut self, process: u32, pool: u32) {
         match call(&mut self.random, pool) {
-            Call::Put { key, value, timestamp, draw } => {
-                self.add(Command::Put { process, key, value, timestamp, draw })
-            }
-            Call::Get { key } => self.add(Command::Get { process, key }),
+            Call::Put { key, value, timestamp, draw } => self.put(process, key, value, timestamp, draw),
+            Call::Get { key } => self.get(process, key),
         }
     }
 
     /// A get once in three times, else a put with any value and one of these timestamps.
-    pub fn start_on(&mut self, process: u32, key: u32, timestamps: (u32, u32)) {
-        let process = process as u8;
+    pub fn start_on(&mut self, process: u32, key: u64, timestamps: (u32, u32)) {
         if self.random.once_in(3) {
-            return self.add(Command::Get { process, key });
+            return self.get(process, key);
         }
         let (value, draw) = (self.random.word(), draw(&mut self.random));
         let timestamp = self.random.within(timestamps.0, timestamps.1);
-        self.add(Command::Put { process, key, value, timestamp, draw });
+        self.put(process, key, value, timestamp, draw);
     }
 
     /// A command that is mostly refused, or an inspection.
     pub fn odd(&mut self, pool: u32) {
-        let process = self.random.below(10) as u8;
+        let process = self.random.below(10);
         let wild = self.random.word();
-        let key = self.random.pick(&[0, u32::MAX, 1, u32::MAX - 1, wild]);
+        let usual = call(&mut Random::new(wild.into()), pool).key();
+        let key = self.odd_key(usual);
         match self.random.below(8) {
-            0 => self.add(Command::Step { process }),
+            0 => self.add(Command::Step { process: process as u8 }),
             1 => self.add(Command::Step { process: wild as u8 }),
-            2 => self.add(Command::Get { process, key }),
-            3 => self.add(Command::Put { process, key, value: wild, timestamp: wild, draw: wild as u16 }),
+            2 => self.get(process, key),
+            3 => self.put(process, key, wild, wild, wild as u16),
             4 => self.start(process, pool),
-            5 => self.add(Command::Look { key, back: wild as u16 }),
-            6 => {
-                self.add(Command::Look { key: call(&mut Random::new(wild.into()), pool).key(), back: wild as u16 % 9 })
-            }
+            5 => self.look(key, wild),
+            6 => self.look(usual, wild % 9),
             _ => self.finish_all_and_inspect(),
+        }
+    }
+
+    /// At an edge, any, or one that agrees in one half with the usual one.
+    fn odd_key(&mut self, usual: u64) -> u64 {
+        match self.random.below(4) {
+            0 => self.random.long(),
+            1 => near(&mut self.random, usual),
+            _ => self.random.pick(&EDGE_KEYS),
         }
     }
 
@@ -153,13 +182,13 @@ impl Writer {
         match self.random.below(4) {
             0 => {
                 let whole = self.bytes.len();
-                self.add(Command::Put { process: 0, key: 5, value: 6, timestamp: 7, draw: 8 });
+                self.put(0, 5, 6, 7, 8);
                 let command = (self.bytes.len() - whole) as u32;
                 let kept = whole + self.random.within(1, command - 1) as usize;
                 self.bytes.truncate(kept);
             }
             1 => {
-                let unknown = self.random.pick(&[0, 0x0A, 0x4E, 0x51, 0x6F, 0x80, 0xFF]);
+                let unknown = self.random.pick(&[0, 0x0A, 0x4E, 0x51, 0x69, 0x6D, 0x6F, 0x71, 0x73, 0x80, 0xFF]);
                 self.bytes.push(unknown);
                 self.add(Command::Inspect);
             }

@@ -4,7 +4,7 @@
 //! tally, the counts and an inspection at the end. It knows nothing of the store but the ledger.
 
 use super::{Map, Outcome};
-use crate::model::{Answer, Call, Done, Kind, Refusal, Status, Step, Verdict, COUNTS};
+use crate::model::{lawful_key, Answer, Call, Done, Kind, Refusal, Status, Step, Verdict, COUNTS};
 use std::fmt;
 
 /// The numbers of an accepted opening.
@@ -21,7 +21,7 @@ pub struct Opening {
 pub enum Entry {
     Start { process: u32, call: Call, answer: Result<u32, Refusal> },
     Step { process: u32, answer: Result<Step, Refusal> },
-    Look { key: u32, back: u32, answer: Result<(u32, u32), Refusal> },
+    Look { key: u64, back: u32, answer: Result<(u32, u32), Refusal> },
 }
 
 /// What is seen when the list is done.
@@ -165,7 +165,7 @@ impl Checker<'_> {
     fn start(&mut self, at: usize, process: u32, call: Call, answer: Result<u32, Refusal>) {
         let due = if process >= self.history.opening.processes {
             Some(Refusal::NoSuchProcess)
-        } else if call.key() == 0 || call.key() == u32::MAX {
+        } else if !lawful_key(call.key()) {
             Some(Refusal::KeyOutOfRange)
         } else if self.running[process as usize].is_some() {
             Some(Refusal::Busy)

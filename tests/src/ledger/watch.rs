@@ -137,7 +137,7 @@ impl Watch {
     }
 
     /// A look, now.
-    pub fn look(&self, key: u32, back: u32, given: Result<(u32, u32), Refusal>) -> Objected {
+    pub fn look(&self, key: u64, back: u32, given: Result<(u32, u32), Refusal>) -> Objected {
         let due = self.map.look(key, back);
         must(given == due, || format!("look {key} {back}: {given:?}, due is {due:?}"))
     }

@@ -18,7 +18,7 @@ pub enum Status {
 
 impl Store {
     /// Value and timestamp `back` places behind a key's newest. Refusals 10, 6, 12, 11, 13.
-    pub fn look(&self, key: u32, back: u32) -> Result<(u32, u32), Refusal> {
+    pub fn look(&self, key: u64, back: u32) -> Result<(u32, u32), Refusal> {
         self.check_lent()?;
         check_key(key)?;
         let node = (1..=self.state.nodes).find(|&node| self.key(node) == key).ok_or(Refusal::NoSuchKey)?;

@@ -201,7 +201,7 @@ impl Store {
 
     fn add_node(&mut self, call: &mut Process) {
         let mut record = [0; NODE_WORDS];
-        record[KEY] = call.key;
+        (record[KEY_LOW], record[KEY_HIGH]) = (low_half(call.key), high_half(call.key));
         record[NEWEST] = self.add_version(call, 0);
         record[TOP] = call.top;
         record[NEXT] = self.next(call.pred, 0);

@@ -1,13 +1,13 @@
 //! The state as a row of words, for a comparison with another implementation through a C interface.
 //!
-//! Words 0 to 7: opened (0 or 1), processes, limit, events, node words, version words, nodes, versions. Then 18 words
-//! for each of the 8 processes: kind, key, value, timestamp, top, start, phase, level, pred, made, answer, effect and
-//! the six remembered nodes. Kind, phase and answer are the numbers of their enums, in the order of declaration.
+//! Words 0 to 7: opened (0 or 1), processes, limit, events, node words, version words, nodes, versions. Then 19 words
+//! for each of the 8 processes: kind, low and high half of the key, value, timestamp, top, start, phase, level, pred,
+//! made, answer, effect and the six remembered nodes. Kind, phase and answer are the numbers of their enums, in the order of declaration.
 
 use super::*;
 
 const HEAD: usize = 8;
-const PROCESS_WORDS: usize = 12 + LEVELS;
+const PROCESS_WORDS: usize = 13 + LEVELS;
 pub const STATE_WORDS: usize = HEAD + PROCESSES * PROCESS_WORDS;
 
 const KINDS: [Kind; 3] = [Kind::Idle, Kind::Put, Kind::Get];
@@ -62,7 +62,8 @@ impl State {
 
 impl Process {
     fn write_words(&self, words: &mut Vec<u32>) {
-        words.extend([self.kind as u32, self.key, self.value, self.timestamp, self.top, self.start]);
+        words.extend([self.kind as u32, low_half(self.key), high_half(self.key)]);
+        words.extend([self.value, self.timestamp, self.top, self.start]);
         words.extend([self.phase as u32, self.level, self.pred, self.made, self.answer as u32, self.effect]);
         words.extend(self.preds);
     }
@@ -70,18 +71,18 @@ impl Process {
     fn from_words(words: &[u32]) -> Option<Process> {
         Some(Process {
             kind: *KINDS.get(words[0] as usize)?,
-            key: words[1],
-            value: words[2],
-            timestamp: words[3],
-            top: words[4],
-            start: words[5],
-            phase: *PHASES.get(words[6] as usize)?,
-            level: words[7],
-            pred: words[8],
-            made: words[9],
-            answer: *Answer::ALL.get(words[10] as usize)?,
-            effect: words[11],
-            preds: words[12..].try_into().ok()?,
+            key: key_of_halves(words[1], words[2]),
+            value: words[3],
+            timestamp: words[4],
+            top: words[5],
+            start: words[6],
+            phase: *PHASES.get(words[7] as usize)?,
+            level: words[8],
+            pred: words[9],
+            made: words[10],
+            answer: *Answer::ALL.get(words[11] as usize)?,
+            effect: words[12],
+            preds: words[13..].try_into().ok()?,
         })
     }
 }
