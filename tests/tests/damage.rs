@@ -56,6 +56,27 @@ fn used(store: &Store) -> (Option<&[u32]>, Option<&[u32]>) {
     (store.node_table.get(..16 * (nodes as usize + 1)), store.version_table.get(3..3 * (versions as usize + 1)))
 }
 
+/// Many steps, looks and inspections hang on word 3 of a node: without it they reply something else.
+#[test]
+fn high_halves_are_met() {
+    let mut met: BTreeMap<&str, u64> = BTreeMap::new();
+    for seed in 0..CASES {
+        let case = case(seed);
+        let (mut store, mut low) = (case.store.clone(), case.store);
+        low.node_table.iter_mut().skip(3).step_by(16).for_each(|high| *high = 0);
+        let differ = case.operation.perform(&mut store) != case.operation.perform(&mut low);
+        let name = match case.operation {
+            Operation::Step { .. } if differ || store.state != low.state => "step",
+            Operation::Look { .. } if differ => "look",
+            Operation::Inspect if differ => "inspect",
+            _ => continue,
+        };
+        *met.entry(name).or_default() += 1;
+    }
+    println!("{met:?}");
+    assert!(met.len() == 3 && met.values().all(|&count| count > 200), "{met:?}");
+}
+
 #[test]
 fn states_go_through_words_and_back() {
     for seed in 0..2_000 {

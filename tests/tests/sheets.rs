@@ -3,7 +3,8 @@
 use std::collections::BTreeSet;
 use store_tests::compare::Kinds;
 use store_tests::generate::{self, Plan};
-use store_tests::sheet::{run, Command};
+use store_tests::model::Refusal;
+use store_tests::sheet::{run, Command, COMMANDS};
 use store_tests::text;
 
 fn lines(text: &str) -> Vec<String> {
@@ -43,6 +44,21 @@ fn every_byte_is_a_command_or_refused_15() {
         let line = if b"OPGSLpgl".contains(&byte) { 16 } else { 15 };
         let line = if byte == b'I' { 14 } else { line };
         assert_eq!(run(&[byte]), format!("refused {line}\n"));
+    }
+}
+
+#[test]
+fn every_command_has_its_count_of_bytes() {
+    for (first, count) in COMMANDS {
+        let bytes = vec![first; count];
+        let (command, rest) = Command::decode(&bytes).unwrap();
+        assert_eq!(rest, []);
+        let mut encoded = Vec::new();
+        command.encode(&mut encoded);
+        assert_eq!(encoded, bytes);
+        for cut in 1..count {
+            assert_eq!(Command::decode(&bytes[..cut]), Err(Refusal::CutShort), "{first:#x} cut at {cut}");
+        }
     }
 }
 
