@@ -17,7 +17,7 @@
 //! eight-byte command.
 //!
 //! [`write`] makes bytes of lines, [`explain`] lines of bytes; `write(&explain(bytes))` gives `bytes` back, whatever
-//! they are. So a line of `explain` has the 8 exactly where the command has eight bytes for a tray that four would hold.
+//! they are. So a line of `explain` has the 8 exactly where a command has eight bytes for a tray that four would hold.
 
 use crate::model::Refusal;
 use crate::sheet::{Command, Key};

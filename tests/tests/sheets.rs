@@ -82,7 +82,8 @@ fn each_open_replaces_the_store() {
 fn a_longer_sheet() {
     let printed = lines(
         "open 2 3 2 90\nput 0 7 250 100 1\nput 1 7 251 99 1\nsteps 0 8\nsteps 1 8\nsteps 0 3\nsteps 1 4\nlook 7 0\nlook 7 1\n\
-         inspect\nget 1 7\ninspect\nsteps 1 8\ninspect\nput 2 7 1 1 1\nput 0 0 1 1 1\nput 0 0xFFFFFFFFFFFFFFFF 1 1 1\nstep 0",
+         inspect\nget 1 7\ninspect\nsteps 1 8\ninspect\nput 2 7 1 1 1\nput 0 0 1 1 1\n\
+         put 0 0xFFFFFFFFFFFFFFFF 1 1 1\nstep 0",
     );
     assert_eq!(printed[18], "step 1 18 wait");
     assert_eq!(printed[21], "done 0 put new 250 100 1 20 21");

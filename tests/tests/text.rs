@@ -14,8 +14,24 @@ fn example_is_explained() {
 fn every_line_comes_back() {
     let lines = "open 65535 65535 255 4294967295\nput 255 4294967295 4294967295 0 65535\nget 0 0\nstep 3\nsteps 4 2\n\
                  look 0 65535\nput8 255 4294967295 4294967295 0 65535\nget8 0 0\nlook8 7 65535\n\
-                 put 1 4294967296 2 3 4\nget 1 18446744073709551615\nlook 18446744073709551614 0\ninspect\nbytes 0x00 0xFF 0x4F # an unknown byte ends the run\n";
+                 put 1 4294967296 2 3 4\nget 1 18446744073709551615\nlook 18446744073709551614 0\ninspect\n\
+                 bytes 0x00 0xFF 0x4F # an unknown byte ends the run\n";
     assert_eq!(explain(&write(lines).unwrap()), lines);
+}
+
+/// Four bytes where they hold the tray, eight where they do not or where the line asks for them.
+#[test]
+fn trays_take_four_bytes_or_eight() {
+    let size = |line: &str| write(line).unwrap().len();
+    for (word, rest, four, eight) in [("put 0", " 1 2 3", 16, 20), ("get 0", "", 6, 10), ("look", " 0", 7, 11)] {
+        let asked = word.split(' ').next().unwrap();
+        for (tray, due) in [("0", four), ("0xFFFFFFFF", four), ("4294967296", eight), ("18446744073709551615", eight)] {
+            let line = format!("{word} {tray}{rest}");
+            let wide = line.replacen(asked, &format!("{asked}8"), 1);
+            assert_eq!([size(&line), size(&wide)], [due, eight], "{line}");
+            assert_eq!(write(&line) == write(&wide), due == eight, "{line}");
+        }
+    }
 }
 
 #[test]

@@ -28,7 +28,7 @@ extern "C" {
         readings: *const u32,
         reading_words: usize,
         station: u32,
-        tray: u32,
+        tray: u64,
         value: u32,
         stamp: u32,
         draw: u16,
@@ -43,7 +43,7 @@ extern "C" {
         readings: *const u32,
         reading_words: usize,
         station: u32,
-        tray: u32,
+        tray: u64,
         tick: *mut u32,
     ) -> u32;
 
@@ -67,7 +67,7 @@ extern "C" {
         node_words: usize,
         readings: *const u32,
         reading_words: usize,
-        tray: u32,
+        tray: u64,
         back: u32,
         answer: *mut u32,
     ) -> u32;

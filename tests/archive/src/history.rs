@@ -6,7 +6,7 @@ use crate::words::*;
 use store_tests::damage::Operation;
 use store_tests::generate::call;
 use store_tests::ledger::Opening;
-use store_tests::model::{Call, MAX_LIMIT};
+use store_tests::model::{key_of_halves, Call, MAX_LIMIT};
 use store_tests::random::Random;
 
 /// One store and the run that it is compared in.
@@ -140,7 +140,7 @@ impl<'r, 'a> Story<'r, 'a> {
             self.call(Operation::Status { process })?;
         }
         for node in 1..=self.words.state_word(7).min(20) {
-            let key = self.words.part(Part::Nodes)[node as usize * 16];
+            let key = self.words.node_key(node);
             for back in [0, 1, 5, 4_094, u32::MAX] {
                 self.call(Operation::Look { key, back })?;
             }
@@ -188,9 +188,10 @@ impl Story<'_, '_> {
         let fresh = keys + 2;
         let place = if number < fresh { number + 1 } else { self.random.within(1, 3) };
         let key = match order {
-            0 => place,
-            1 => fresh + 1 - place,
-            _ => place.wrapping_mul(0x9E37_79B1),
+            0 => place.into(),
+            // Low halves of 0: only the high ones are apart.
+            1 => key_of_halves(0, fresh + 1 - place),
+            _ => u64::from(place).wrapping_mul(0x9E37_79B9_7F4A_7C15),
         };
         let timestamp = 1_000 + number - if self.random.once_in(16) { 20 } else { 0 };
         Call::Put { key, value: self.random.word(), timestamp, draw: self.random.word() as u16 }

@@ -15,7 +15,7 @@ pub struct Interface {
     pub standing: Standing,
 }
 
-// Each pointer but those of answers is followed by its count of words.
+// Each pointer but those of answers is followed by its count of words. A tray is the one number of 64 bits.
 pub type Open = unsafe extern "C" fn(*mut u32, usize, *mut u32, usize, *mut u32, usize, u32, u32) -> u32;
 pub type StartPut = unsafe extern "C" fn(
     *mut u32,
@@ -25,17 +25,17 @@ pub type StartPut = unsafe extern "C" fn(
     *const u32,
     usize,
     u32,
-    u32,
+    u64,
     u32,
     u32,
     u16,
     *mut u32,
 ) -> u32;
 pub type StartGet =
-    unsafe extern "C" fn(*mut u32, usize, *const u32, usize, *const u32, usize, u32, u32, *mut u32) -> u32;
+    unsafe extern "C" fn(*mut u32, usize, *const u32, usize, *const u32, usize, u32, u64, *mut u32) -> u32;
 pub type Step =
     unsafe extern "C" fn(*mut u32, usize, *mut u32, usize, *mut u32, usize, *mut u32, usize, u32, *mut u32) -> u32;
 pub type Look =
-    unsafe extern "C" fn(*const u32, usize, *const u32, usize, *const u32, usize, u32, u32, *mut u32) -> u32;
+    unsafe extern "C" fn(*const u32, usize, *const u32, usize, *const u32, usize, u64, u32, *mut u32) -> u32;
 pub type Inspect = unsafe extern "C" fn(*const u32, usize, *const u32, usize, *const u32, usize, *mut u32) -> u32;
 pub type Standing = unsafe extern "C" fn(*const u32, usize, u32, *mut u32) -> u32;

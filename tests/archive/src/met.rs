@@ -2,11 +2,11 @@
 //! every kind of answer. A run that leaves one out has shown too little.
 
 use crate::expected::{unknown_beside, Flaw, Outcome};
-use crate::words::{Part, Words, PHASE};
+use crate::words::{Part, Words, LEVEL, PHASE, PRED};
 use std::collections::{BTreeMap, BTreeSet};
 use std::fmt;
 use store_tests::damage::Operation;
-use store_tests::model::{Call, MAX_LIMIT};
+use store_tests::model::{high_half, low_half, Call, LAST_KEY, MAX_LIMIT};
 
 const PHASES: [&str; 9] = ["walk", "read", "seek", "lock", "check", "update", "make", "link", "release"];
 const ANSWERS: [&str; 7] = ["too-old", "readings-full", "added", "trays-full", "new", "found", "none"];
@@ -59,19 +59,25 @@ const OF_STATE: [&str; 8] =
 const OF_TABLES: [&str; 3] = ["node table unlike", "reading table unlike", "wide length"];
 
 /// What a call meets and may have altered when it is done.
+#[derive(Default)]
 pub struct Before {
     phase: u32,
     tally: Vec<u32>,
+    /// The key of the call that is stepped.
+    key: u64,
+    /// Would the low halves alone compare that key otherwise with the one that p's link leads to?
+    by_high: bool,
 }
 
 impl Before {
     pub fn of(words: &Words, operation: Operation) -> Before {
-        match operation {
-            Operation::Step { process } => {
-                Before { phase: words.process_word(process, PHASE), tally: words.part(Part::Tally).to_vec() }
-            }
-            _ => Before { phase: 0, tally: Vec::new() },
-        }
+        let Operation::Step { process } = operation else { return Before::default() };
+        let [phase, level, pred] = [PHASE, LEVEL, PRED].map(|word| words.process_word(process, word));
+        let key = words.process_key(process);
+        let next = words.next(pred, level);
+        let met = words.node_key(next);
+        let by_high = next != 0 && met.cmp(&key) != low_half(met).cmp(&low_half(key));
+        Before { phase, tally: words.part(Part::Tally).to_vec(), key, by_high }
     }
 
     /// Did a finished call meet a count that grows no more?
@@ -102,6 +108,63 @@ fn kind(phase: u32, words: &Words, operation: Operation, outcome: &Outcome) -> S
     }
 }
 
+/// Steps that compare keys.
+const COMPARING: [&str; 3] = ["walk", "seek", "check"];
+
+/// What an outcome shows of keys above 32 bits and of the ends of their range.
+fn key_kinds(before: &Before, words: &Words, operation: Operation, outcome: &Outcome) -> Vec<String> {
+    let name = name(operation);
+    let [number, first, _, _, answer, ..] = outcome.words;
+    let phase = PHASES.get(before.phase as usize).unwrap_or(&"");
+    let key = match operation {
+        Operation::Start { call, .. } => call.key(),
+        Operation::Look { key, .. } => key,
+        _ => before.key,
+    };
+    let long = high_half(key) != 0;
+    match (number, operation) {
+        (6, _) => vec![format!("{name} 6 {key}")],
+        (0, Operation::Step { .. }) => {
+            let done = (first == 2 && long).then(|| format!("step 0 {}, long tray", ANSWERS[answer as usize]));
+            let by_high = before.by_high && COMPARING.contains(phase);
+            done.into_iter().chain(by_high.then(|| format!("step 0 {phase} by the high half"))).collect()
+        }
+        (0, Operation::Inspect) => inspected_by_high(words, outcome).into_iter().collect(),
+        (0, Operation::Start { .. }) | (0 | 11..=13, Operation::Look { .. }) if long => {
+            vec![format!("{name} {number}, long tray")]
+        }
+        _ => vec![],
+    }
+}
+
+/// Does a sound inspection, or a fault, hang on high halves: do keys rise, or fail to, otherwise than their low halves?
+fn inspected_by_high(words: &Words, outcome: &Outcome) -> Option<String> {
+    let [_, fault, level, node, ..] = outcome.words;
+    let rises = |node: u32, level: u32| {
+        let next = words.next(node, level);
+        let (key, behind) = (words.node_key(node), words.node_key(next));
+        (next != 0 && next <= words.state_word(7)).then_some((key < behind, low_half(key) < low_half(behind)))
+    };
+    if fault == 1 {
+        return (rises(node, level) == Some((false, true))).then(|| "inspect 0 fault by the high half".to_string());
+    }
+    let mut nodes = 0..=words.state_word(7);
+    let sound = nodes.any(|node| rises(node, 0) == Some((true, false)));
+    sound.then(|| "inspect 0 sound by the high half".to_string())
+}
+
+/// All kinds of `key_kinds` that can be met.
+fn possible_of_keys() -> impl Iterator<Item = String> {
+    let starts = ["start-put", "start-get"].map(|name| format!("{name} 0, long tray"));
+    let looks = [0, 11, 12, 13].map(|number| format!("look {number}, long tray"));
+    let refused = ["start-put", "start-get", "look"].into_iter();
+    let refused = refused.flat_map(|name| [0, LAST_KEY + 1].map(|key| format!("{name} 6 {key}")));
+    let done = ANSWERS.map(|answer| format!("step 0 {answer}, long tray"));
+    let steps = COMPARING.map(|phase| format!("step 0 {phase} by the high half"));
+    let inspected = ["sound", "fault"].map(|what| format!("inspect 0 {what} by the high half"));
+    starts.into_iter().chain(looks).chain(refused).chain(done).chain(steps).chain(inspected)
+}
+
 /// All kinds that can be met.
 fn possible() -> BTreeSet<String> {
     let mut kinds = BTreeSet::new();
@@ -120,6 +183,7 @@ fn possible() -> BTreeSet<String> {
     kinds.extend(["step 0 wait lock", "step 0 done found read", "step 0 done none walk"].map(String::from));
     kinds.extend(ANSWERS.map(|answer| format!("step 0 {answer} at the last count")));
     kinds.extend([0, 5, 8, 9, 11].map(|number| format!("step {number} beside unknown numbers")));
+    kinds.extend(possible_of_keys());
     kinds
 }
 
@@ -153,6 +217,7 @@ impl Met {
         let number = outcome.words[0];
         *self.numbers.entry((name(operation), number)).or_default() += 1;
         self.add(kind(before.phase, words, operation, outcome));
+        key_kinds(before, words, operation, outcome).into_iter().for_each(|kind| self.add(kind));
         let Operation::Step { process } = operation else { return };
         if number != 10 && unknown_beside(words.state(), process) {
             self.add(format!("step {number} beside unknown numbers"));

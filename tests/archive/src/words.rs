@@ -1,19 +1,26 @@
 //! The words that a store's calls are lent, and where the numbers of a state stand in them.
 
-use store_tests::model::{State, Store, LEVELS, STATE_WORDS};
+use store_tests::model::{key_of_halves, State, Store, LEVELS, STATE_WORDS};
 
 /// Word 0 of every state.
-pub const LAYOUT: u32 = 1;
+pub const LAYOUT: u32 = 2;
 /// Words of a state: the layout's number, then those of the model.
 pub const STATE: usize = 1 + STATE_WORDS;
 /// Words before the first process.
 pub const HEAD: usize = 9;
-pub const PROCESS: usize = 12 + LEVELS;
+pub const PROCESS: usize = 13 + LEVELS;
 // Words of a process that are numbers of an enum, each with its greatest number.
 pub const KIND: usize = 0;
-pub const PHASE: usize = 6;
-pub const ANSWER: usize = 10;
+pub const PHASE: usize = 7;
+pub const ANSWER: usize = 11;
 pub const NUMBERS: [(usize, u32); 3] = [(KIND, 2), (PHASE, 8), (ANSWER, 6)];
+// Other words of a process.
+pub const LEVEL: usize = 8;
+pub const PRED: usize = 9;
+// The halves of a key, low and high, in a process and in a node; the links of a node.
+const KEY_OF_PROCESS: [usize; 2] = [1, 2];
+pub const KEY_OF_NODE: [usize; 2] = [0, 3];
+const NEXT: usize = 4;
 
 #[derive(Clone, Copy, Debug, PartialEq, Eq)]
 pub enum Part {
@@ -60,6 +67,28 @@ impl Words {
     /// A word of a process, 0 where there is none.
     pub fn process_word(&self, process: u32, word: usize) -> u32 {
         self.state_word((process as usize).saturating_mul(PROCESS).saturating_add(HEAD + word))
+    }
+
+    /// The key of a process's call, 0 where there is none.
+    pub fn process_key(&self, process: u32) -> u64 {
+        let [low, high] = KEY_OF_PROCESS.map(|word| self.process_word(process, word));
+        key_of_halves(low, high)
+    }
+
+    /// A word of a node, 0 where the table has no such node.
+    pub fn node_word(&self, node: u32, word: usize) -> u32 {
+        self.part(Part::Nodes).get(node as usize * 16 + word).copied().unwrap_or(0)
+    }
+
+    /// The key of a node, 0 where the table has no such node.
+    pub fn node_key(&self, node: u32) -> u64 {
+        let [low, high] = KEY_OF_NODE.map(|word| self.node_word(node, word));
+        key_of_halves(low, high)
+    }
+
+    /// A node's link at a level up to 5, 0 where there is none.
+    pub fn next(&self, node: u32, level: u32) -> u32 {
+        self.node_word(node, NEXT + level.min(5) as usize)
     }
 
     pub fn is_running(&self, process: u32) -> bool {

@@ -84,8 +84,12 @@ pub fn relength(random: &mut Random, words: &mut Words, part: Part) {
     }
 }
 
-/// A word of a node or a version in use, set to a number near those in use or to one at an edge.
+/// A word of a node or a version in use, set to a number near those in use or to one at an edge; at times one half of a
+/// node's key.
 pub fn alter_table(random: &mut Random, words: &mut Words) {
+    if random.once_in(6) {
+        return alter_key(random, words);
+    }
     let (part, count, record) = random.pick(&[(Part::Nodes, 7, 16), (Part::Nodes, 7, 16), (Part::Versions, 8, 3)]);
     let used = words.state_word(count).saturating_add(1).saturating_mul(record);
     let at = random.below(used.min(words.part(part).len() as u32)) as usize;
@@ -95,6 +99,15 @@ pub fn alter_table(random: &mut Random, words: &mut Words) {
         _ => random.below(words.state_word(count).saturating_add(3)),
     };
     words.part_mut(part)[at] = to;
+}
+
+/// One half of the key of a node in use, set to that of another node or to a number at an edge.
+fn alter_key(random: &mut Random, words: &mut Words) {
+    let nodes = words.state_word(7).saturating_add(1).min(words.part(Part::Nodes).len() as u32 / 16);
+    let (node, other) = (random.below(nodes), random.below(nodes));
+    let half = random.pick(&KEY_OF_NODE);
+    let to = if random.once_in(2) { words.node_word(other, half) } else { random.pick(&EDGES) };
+    words.part_mut(Part::Nodes)[node as usize * 16 + half] = to;
 }
 
 /// Locks that calls left are no faults then; an altered one may go with them.

@@ -2,11 +2,11 @@
 
 use crate::words::*;
 use store_tests::damage::Operation;
+use store_tests::generate::{near, EDGE_KEYS};
 use store_tests::model::{Call, MAX_LIMIT};
 use store_tests::random::Random;
 
 const PROCESSES: [u32; 12] = [0, 1, 6, 7, 8, 9, 255, 256, 1 << 16, 1 << 29, 1 << 31, u32::MAX];
-const KEYS: [u32; 6] = [0, 1, 2, 1 << 31, u32::MAX - 1, u32::MAX];
 const BACKS: [u32; 9] = [4, 14, 4_094, 4_095, 4_096, 65_535, 1 << 16, 1 << 31, u32::MAX];
 const DRAWS: [u16; 10] = [0, 1, 2, 16, 32, 64, 128, 1 << 14, 1 << 15, u16::MAX];
 const LIMITS: [u32; 7] = [0, 1, 2, MAX_LIMIT - 1, MAX_LIMIT, MAX_LIMIT + 1, u32::MAX];
@@ -90,16 +90,19 @@ fn process(random: &mut Random, words: &Words, focus: Option<u32>) -> u32 {
     }
 }
 
-/// At an edge, or one that stands in the node table, or any.
-fn key(random: &mut Random, words: &Words) -> u32 {
-    let table = words.part(Part::Nodes);
-    let nodes = (table.len() / 16) as u32;
+/// At an edge, or one that stands in the node table or agrees with such a one in one half, or any.
+fn key(random: &mut Random, words: &Words) -> u64 {
+    let nodes = (words.part(Part::Nodes).len() / 16) as u32;
     let last = words.state_word(7).min(nodes.saturating_sub(1));
-    match random.below(6) {
-        0 => random.pick(&KEYS),
-        1 => random.word(),
-        _ if last > 0 => table[random.within(1, last) as usize * 16],
-        _ => random.below(8),
+    match random.below(8) {
+        0 => random.pick(&EDGE_KEYS),
+        1 => random.long(),
+        2 if last > 0 => {
+            let key = words.node_key(random.within(1, last));
+            near(random, key)
+        }
+        _ if last > 0 => words.node_key(random.within(1, last)),
+        _ => random.below(8).into(),
     }
 }
 

@@ -4,18 +4,18 @@ use archive_tests::expected::{perform, Outcome};
 use archive_tests::fence::{page_words, WIDE};
 use archive_tests::interface::Interface;
 use archive_tests::subject::answer_words;
-use archive_tests::words::{state_words, Part, Words, LAYOUT, STATE};
+use archive_tests::words::{state_words, words_of, Part, Words, HEAD, LAYOUT, PROCESS, STATE};
 use std::cell::Cell;
 use std::ptr::null_mut;
 use store_tests::broken::{self, Broken};
 use store_tests::damage::{Operation, Reply};
 use store_tests::machine::Machine;
-use store_tests::model::{Call, State, Store};
+use store_tests::model::{low_half, Call, State, Store};
 
 #[derive(Clone, Copy, Debug, PartialEq, Eq)]
 pub enum Slip {
     None,
-    /// A step of the model's own slips.
+    /// A step, a look or an inspection of the model's own slips.
     Model(broken::Slip),
     /// A step's answer has another word.
     Answer(usize),
@@ -33,6 +33,10 @@ pub enum Slip {
     ShortLengths,
     /// A refused open leaves the state.
     RefusedOpenKeeps,
+    /// The high half of a tray is lost on its way in.
+    ShortKeys,
+    /// A start writes the halves of its tray changed over.
+    HalvesSwapped,
     /// A step writes a word beside this part, where that is not a guard page.
     Beside(Part),
     /// A step reads the word on the guard page.
@@ -65,7 +69,10 @@ unsafe fn turn(lent: Lent, operation: Operation, answer: *mut u32) -> u32 {
     let wide = Part::ALL.into_iter().find(|&part| lent[part as usize].1 >= WIDE);
     let wide = wide.filter(|_| slip != Slip::ShortLengths);
     let mut outcome = match (slip, operation) {
-        (Slip::Model(slip), Operation::Step { process }) => broken_step(&mut words, slip, process),
+        (Slip::Model(slip), Operation::Step { .. } | Operation::Look { .. } | Operation::Inspect) => {
+            broken_call(&mut words, slip, operation)
+        }
+        (Slip::ShortKeys, _) => perform(&mut words, wide, short(operation)),
         _ => perform(&mut words, wide, operation),
     };
     spoil(slip, &before, &mut words, operation, &mut outcome);
@@ -95,8 +102,13 @@ fn spoil(slip: Slip, before: &Words, words: &mut Words, operation: Operation, ou
             }
         }
         Slip::OthersMadeKnown if step && number == 0 => {
-            let kinds = words.part_mut(Part::State)[9..].iter_mut().step_by(18);
+            let kinds = words.part_mut(Part::State)[HEAD..].iter_mut().step_by(PROCESS);
             kinds.for_each(|kind| *kind = (*kind).min(2));
+        }
+        Slip::HalvesSwapped if number == 0 => {
+            if let Operation::Start { process, .. } = operation {
+                words.part_mut(Part::State)[words_of(process as usize)].swap(1, 2);
+            }
         }
         Slip::RefusedOpenKeeps if (1..5).contains(&number) => words.clone_from(before),
         _ => {}
@@ -130,12 +142,32 @@ fn at_guard(word: *mut u32) -> bool {
     (word as usize).is_multiple_of(4 * page_words())
 }
 
-/// A step of a broken model; the words must be lawful.
-fn broken_step(words: &mut Words, slip: broken::Slip, process: u32) -> Outcome {
+/// The operation with trays of 32 bits.
+fn short(operation: Operation) -> Operation {
+    let cut = |key| u64::from(low_half(key));
+    match operation {
+        Operation::Start { process, call: Call::Get { key } } => {
+            Operation::Start { process, call: Call::Get { key: cut(key) } }
+        }
+        Operation::Start { process, call: Call::Put { key, value, timestamp, draw } } => {
+            Operation::Start { process, call: Call::Put { key: cut(key), value, timestamp, draw } }
+        }
+        Operation::Look { key, back } => Operation::Look { key: cut(key), back },
+        other => other,
+    }
+}
+
+/// A call of a broken model; the words must be lawful.
+fn broken_call(words: &mut Words, slip: broken::Slip, operation: Operation) -> Outcome {
     let state = State::from_words(&words.state()[1..]).expect("a lawful state");
     let [_, node_table, version_table, tally] = std::mem::take(&mut words.0);
     let mut broken = Broken { store: Store { state, node_table, version_table, tally }, slip };
-    let reply = broken.step(process).map_or_else(Reply::Refused, Reply::Stepped);
+    let reply = match operation {
+        Operation::Step { process } => broken.step(process).map(Reply::Stepped),
+        Operation::Look { key, back } => broken.look(key, back).map(|(value, stamp)| Reply::Looked(value, stamp)),
+        _ => broken.inspect().map(Reply::Inspected),
+    };
+    let reply = reply.unwrap_or_else(Reply::Refused);
     let Store { state, node_table, version_table, tally } = broken.store;
     words.0 = [state_words(&state), node_table, version_table, tally];
     Outcome { words: reply.words(), flaw: None }
@@ -190,7 +222,7 @@ unsafe extern "C" fn start_put(
     v: *const u32,
     vw: usize,
     process: u32,
-    key: u32,
+    key: u64,
     value: u32,
     timestamp: u32,
     draw: u16,
@@ -208,7 +240,7 @@ unsafe extern "C" fn start_get(
     v: *const u32,
     vw: usize,
     process: u32,
-    key: u32,
+    key: u64,
     tick: *mut u32,
 ) -> u32 {
     let call = Call::Get { key };
@@ -237,7 +269,7 @@ unsafe extern "C" fn look(
     nw: usize,
     v: *const u32,
     vw: usize,
-    key: u32,
+    key: u64,
     back: u32,
     answer: *mut u32,
 ) -> u32 {
