@@ -1,5 +1,6 @@
 //! The sheet program: commands in bytes, one printed line each.
 
+use crate::machine::Machine;
 use crate::model::*;
 use std::fmt::Write;
 
@@ -171,14 +172,19 @@ impl Command {
 }
 
 /// Runs a whole sheet; answers what it prints.
-pub fn run(mut bytes: &[u8]) -> String {
-    let mut sheet = Sheet::default();
+pub fn run(bytes: &[u8]) -> String {
+    run_on(bytes, |store| store)
+}
+
+/// The same on machines that `build` makes of each opened store.
+pub fn run_on<M: Machine>(mut bytes: &[u8], build: impl Fn(Store) -> M) -> String {
+    let mut sheet = Sheet { store: None };
     let mut printed = String::new();
     while !bytes.is_empty() {
         let line = match Command::decode(bytes) {
             Ok((command, rest)) => {
                 bytes = rest;
-                sheet.perform(command)
+                sheet.perform(command, &build)
             }
             Err(refusal) => {
                 bytes = &[];
@@ -192,25 +198,29 @@ pub fn run(mut bytes: &[u8]) -> String {
 }
 
 /// The store of a running sheet; none before an accepted open and after a refused one.
-#[derive(Default)]
-pub struct Sheet {
-    pub store: Option<Store>,
+pub struct Sheet<M> {
+    pub store: Option<M>,
 }
 
-impl Sheet {
+impl<M: Machine> Sheet<M> {
     /// Performs one command; answers its line.
-    pub fn perform(&mut self, command: Command) -> Result<String, Refusal> {
+    pub fn perform(&mut self, command: Command, build: impl Fn(Store) -> M) -> Result<String, Refusal> {
         if let Command::Open { keys, versions, processes, limit } = command {
-            return self.open(keys, versions, processes, limit);
+            self.store = None;
+            let mut store = Store::closed(keys.into(), versions.into());
+            store.open(processes.into(), limit)?;
+            self.store = Some(build(store));
+            return Ok(format!("open {keys} {versions} {processes} {limit}"));
         }
         let store = self.store.as_mut().ok_or(Refusal::NotOpened)?;
         match command {
             Command::Put { process, key, value, timestamp, draw } => {
-                let tick = store.start_put(process.into(), key.number(), value, timestamp, draw)?;
+                let call = Call::Put { key: key.number(), value, timestamp, draw };
+                let tick = store.start(process.into(), call)?;
                 Ok(format!("start {process} {tick}"))
             }
             Command::Get { process, key } => {
-                let tick = store.start_get(process.into(), key.number())?;
+                let tick = store.start(process.into(), Call::Get { key: key.number() })?;
                 Ok(format!("start {process} {tick}"))
             }
             Command::Step { process } => store.step(process.into()).map(|step| step_line(process, step)),
@@ -224,14 +234,6 @@ impl Sheet {
                 Verdict::Fault { level, node } => format!("fault {level} {node}"),
             }),
         }
-    }
-
-    fn open(&mut self, keys: u16, versions: u16, processes: u8, limit: u32) -> Result<String, Refusal> {
-        self.store = None;
-        let mut store = Store::closed(keys.into(), versions.into());
-        store.open(processes.into(), limit)?;
-        self.store = Some(store);
-        Ok(format!("open {keys} {versions} {processes} {limit}"))
     }
 }
 

@@ -7,6 +7,7 @@ use store_tests::ledger::{check, Aspect, Opening};
 use store_tests::machine::Machine;
 use store_tests::model::{Call, Store, MAX_LIMIT};
 use store_tests::random::Random;
+use store_tests::sheet::{run, run_on};
 
 fn put(key: u64, timestamp: u32, draw: u16) -> Call {
     Call::Put { key, value: 7, timestamp, draw }
@@ -120,6 +121,20 @@ fn slips_out_of_sight_of_demand_3() {
 fn comparison_step_by_step_shows_every_slip() {
     for slip in Slip::SEEN.into_iter().chain(Slip::UNSEEN) {
         assert!((0..50).any(|seed| differs(seed, slip)), "{slip:?}");
+    }
+}
+
+/// The random sheets of one round print something else on each broken store, but for the tally: no sheet prints it.
+#[test]
+fn random_sheets_show_every_slip() {
+    for slip in Slip::SEEN.into_iter().chain(Slip::UNSEEN) {
+        let differs = |seed: &u64| {
+            let sheet = generate::sheet(*seed);
+            run(&sheet) != run_on(&sheet, |store| Broken { store, slip })
+        };
+        let shown = (0..generate::ROUND).find(differs);
+        println!("{slip:?}: seed {shown:?}");
+        assert_eq!(shown.is_some(), slip != Slip::InventedTally, "{slip:?}");
     }
 }
 

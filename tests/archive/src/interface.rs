@@ -15,7 +15,7 @@ pub struct Interface {
     pub standing: Standing,
 }
 
-// Each pointer but those of answers is followed by its count of words. A tray is the one number of 64 bits.
+// Each pointer but those of answers is followed by its count of words; the u64 is a tray.
 pub type Open = unsafe extern "C" fn(*mut u32, usize, *mut u32, usize, *mut u32, usize, u32, u32) -> u32;
 pub type StartPut = unsafe extern "C" fn(
     *mut u32,

@@ -9,19 +9,19 @@ use crate::sheet::{Command, Key, Sheet};
 pub struct Writer {
     pub random: Random,
     pub bytes: Vec<u8>,
-    sheet: Sheet,
+    sheet: Sheet<Store>,
     /// The process that gets most moves just now.
     favourite: u32,
 }
 
 impl Writer {
     pub fn new(seed: u64) -> Writer {
-        Writer { random: Random::new(seed), bytes: Vec::new(), sheet: Sheet::default(), favourite: 0 }
+        Writer { random: Random::new(seed), bytes: Vec::new(), sheet: Sheet { store: None }, favourite: 0 }
     }
 
     pub fn add(&mut self, command: Command) {
         command.encode(&mut self.bytes);
-        let _ = self.sheet.perform(command);
+        let _ = self.sheet.perform(command, |store| store);
     }
 
     /// The key in a width that holds it: at times in eight bytes though four would do.
