@@ -66,7 +66,11 @@ module _ (t : List ℕ) (x : ℕ) where
   same-key u y h = let low = h 0 low-field in let high = h 3 high-field in cc
 
   pub written-key : (k v tp y : ℕ) → ((f : ℕ) → KeyField f → word t x f ≡ getD (nodeRecord k v tp y) f 0) → key t x ≡ k
-  written-key k v tp y h = rw (h 0 low-field, h 3 high-field) (joined-halves k)
+  unfolding joined
+  written-key k v tp y h =
+      let low : word t x 0 ≡ lowHalf k = h 0 low-field in
+      let high : word t x 3 ≡ highHalf k = h 3 high-field in
+      omega arith
 
   pub zero-key : ((f : ℕ) → KeyField f → word t x f ≡ 0) → key t x ≡ 0
   unfolding joined

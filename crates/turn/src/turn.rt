@@ -1,4 +1,4 @@
-// The core: one step of one call, in the eighteen words of its process. Each phase reads what it needs of them.
+// The core: one step of one call, in the nineteen words of its process. Each phase reads what it needs of them.
 ghost use mathlib.Core.Path.{_≡_};
 ghost use lib.ListN.{length};
 ghost use Rattle.model.specs.Phases.{phaseOf, turnOf};

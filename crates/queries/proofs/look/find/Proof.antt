@@ -29,8 +29,8 @@ returns c =
     let l = c .before .before .before .loop in
     sym
     (l .inv .1
-    ∙ find-hit (a .nodes .now) (a .key) (a .used) (l .x) _ (c .before .before .loop-test .taken)
-    (c .before .key-at .ensures) (c .if1 .taken))
+    ∙ find-hit (a .nodes .now) (a .key) (a .used) (l .x) (c .before .key-at .result) (c .before .before .loop-test .taken)
+    (c .before .key-at .ensures) (omega (arith, c .if1 .taken)))
 
 loop-less : tie.Need-loop-less Inv-loop μ-loop
 loop-less c = search needs
@@ -41,8 +41,8 @@ loop-again c =
     let l = c .before .before .before .loop in (
       omega arith,
       l .inv .1
-          ∙ find-miss (a .nodes .now) (a .key) (a .used) (l .x) _ (c .before .before .loop-test .taken) (c .before .key-at .ensures)
-          (c .if1 .left),
+          ∙ find-miss (a .nodes .now) (a .key) (a .used) (l .x) (c .before .key-at .result) (c .before .before .loop-test .taken) (c .before .key-at .ensures)
+          (omega (arith, c .if1 .left)),
     )
 
 returns-2 : tie.Need-returns-2 Inv-loop μ-loop
