@@ -33,6 +33,8 @@ pub enum Slip {
     LookByLow,
     /// An inspection compares the low halves of keys alone.
     InspectByLow,
+    /// A start refuses 6 from 4,294,967,295 on, the bound of 32 bits.
+    OldBound,
     /// A get ends at the level where it meets its key. Demand 3 cannot see it.
     GetEndsHigh,
     /// A free lock is waited for at odd ticks. Demand 3 cannot see it.
@@ -41,7 +43,7 @@ pub enum Slip {
 
 impl Slip {
     /// Those that break demand 3.
-    pub const SEEN: [Slip; 14] = [
+    pub const SEEN: [Slip; 15] = [
         Slip::StaleLink,
         Slip::OwnNodeLocked,
         Slip::EqualDropped,
@@ -56,6 +58,7 @@ impl Slip {
         Slip::HalvesSwapped,
         Slip::LookByLow,
         Slip::InspectByLow,
+        Slip::OldBound,
     ];
     /// Those that only a comparison step by step shows.
     pub const UNSEEN: [Slip; 2] = [Slip::GetEndsHigh, Slip::WaitAtFree];
@@ -76,6 +79,14 @@ impl Machine for Broken {
         &mut self.store
     }
 
+    fn start(&mut self, process: u32, call: Call) -> Result<u32, Refusal> {
+        let beyond = call.key() >= u32::MAX.into() && process < self.store.state.processes;
+        if self.slip == Slip::OldBound && beyond {
+            return Err(Refusal::KeyOutOfRange);
+        }
+        self.store.start(process, call)
+    }
+
     fn step(&mut self, process: u32) -> Result<Step, Refusal> {
         let Some(call) = self.ready(process) else { return self.store.step(process) };
         let slipped = match self.slip {
@@ -91,7 +102,7 @@ impl Machine for Broken {
             Slip::LowFirst => self.step_seeing(process, |key| key.rotate_left(32)),
             Slip::HalvesSwapped => self.halves_swapped(process, &call),
             Slip::InventedTicks | Slip::LateEffects | Slip::InventedTally => None,
-            Slip::LookByLow | Slip::InspectByLow => None,
+            Slip::LookByLow | Slip::InspectByLow | Slip::OldBound => None,
         };
         match slipped {
             Some(step) => Ok(step),

@@ -28,7 +28,7 @@ fn scope(slip: Slip) -> Scope {
         Slip::HighIgnored | Slip::LookByLow => {
             (vec![], vec![vec![put(5, 2, 1), put(SAME_LOW, 2, 1)], vec![Call::Get { key: SAME_LOW }]])
         }
-        Slip::LowFirst | Slip::HalvesSwapped | Slip::InspectByLow => {
+        Slip::LowFirst | Slip::HalvesSwapped | Slip::InspectByLow | Slip::OldBound => {
             (vec![], vec![vec![put(5, 2, 1), put(LESS_LOW, 2, 1)], vec![Call::Get { key: LESS_LOW }]])
         }
         _ => (vec![], vec![vec![put(5, 2, 1), put(3, 2, 1)], vec![Call::Get { key: 5 }]]),
@@ -59,10 +59,10 @@ fn explorer_accepts_the_model_in_the_same_scopes() {
 }
 
 /// The list that the explorer found wrong is wrong for the literal checker too. (A late effect need not be: there the
-/// watch is stricter, since it has seen the status.)
+/// watch is stricter, since it has seen the status. Nor an old bound: the explorer tries outer keys beside the list.)
 #[test]
 fn literal_checker_objects_to_the_lists_found() {
-    for slip in Slip::SEEN.into_iter().filter(|&slip| slip != Slip::LateEffects) {
+    for slip in Slip::SEEN.into_iter().filter(|slip| !matches!(slip, Slip::LateEffects | Slip::OldBound)) {
         let (scope, found) = found(slip);
         let history = replay(Broken { store: scope.opening.fresh(), slip }, &scope, &found.schedule);
         let objections = check(&history);

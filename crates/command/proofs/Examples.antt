@@ -68,14 +68,26 @@ cut-short : all 1 (0x4F ∷ 0 ∷ 2 ∷ 0 ∷ 3 ∷ 1 ∷ 0 ∷ 0 ∷ 0 ∷ [])
     ++ (all 1 (0x47 ∷ 0 ∷ 0 ∷ 0 ∷ 0 ∷ [])
     ++ (all 1 (0x53 ∷ [])
     ++ (all 1 (0x4C ∷ 0 ∷ 0 ∷ 0 ∷ 7 ∷ 0 ∷ [])
-    ++ (all 1 (0x00 ∷ []) ++ all 1 [])))))
-    ≡ Short ∷ Short ∷ Short ∷ Short ∷ Short ∷ Unknown ∷ End ∷ []
+    ++ (all 1 (0x70 ∷ 0 ∷ 0 ∷ 0 ∷ 0 ∷ 1 ∷ 0 ∷ 0 ∷ 0 ∷ 7 ∷ 0 ∷ 0 ∷ 0 ∷ 8 ∷ 0 ∷ 0 ∷ 0 ∷ 9 ∷ 0 ∷ [])
+    ++ (all 1 (0x67 ∷ 0 ∷ 0 ∷ 0 ∷ 0 ∷ 1 ∷ 0 ∷ 0 ∷ 0 ∷ [])
+    ++ (all 1 (0x6C ∷ 0 ∷ 0 ∷ 0 ∷ 1 ∷ 0 ∷ 0 ∷ 0 ∷ 7 ∷ 0 ∷ [])
+    ++ (all 1 (0x00 ∷ []) ++ all 1 []))))))))
+    ≡ Short ∷ Short ∷ Short ∷ Short ∷ Short ∷ Short ∷ Short ∷ Short ∷ Unknown ∷ End ∷ []
 unfolding all found commandFrom codeFrom formFrom bigEndianFrom
 cut-short = refl
 
+-- the greatest number of four bytes, and of eight; "the four-byte commands mean a high half of 0"
 greatest : bigEndian (255 ∷ 255 ∷ 255 ∷ 255 ∷ []) ≡ 4_294_967_295
 unfolding bigEndianFrom
 greatest = refl
+
+greatest-of-eight : bigEndian (255 ∷ 255 ∷ 255 ∷ 255 ∷ 255 ∷ 255 ∷ 255 ∷ 255 ∷ []) ≡ 18_446_744_073_709_551_615
+unfolding bigEndianFrom
+greatest-of-eight = refl
+
+high-half-of-0 : bigEndian (0 ∷ 0 ∷ 0 ∷ 0 ∷ 255 ∷ 255 ∷ 255 ∷ 255 ∷ []) ≡ 4_294_967_295
+unfolding bigEndianFrom
+high-half-of-0 = refl
 
 -- ---- lines
 

@@ -22,21 +22,21 @@ pub record Form : Type 0 where
 abbrev pub openForm : Form
 openForm = record { widths = 2 ∷ 2 ∷ 1 ∷ 4 ∷ []; command = λ n. Open (n 0) (n 1) (n 2) (n 3) }
 
--- how many bytes a tray can have: those of its low half, and up to four of a high one
-abbrev pub Wide : ℕ → Type 0
-Wide wide = (4 ≤ wide) × (wide ≤ 8)
+-- the bytes of a tray, four or eight: all that is asked of their number
+abbrev pub KeyWidth : ℕ → Type 0
+KeyWidth width = (4 ≤ width) × (width ≤ 8)
 
-abbrev pub putForm : (wide : ℕ) → Form
-putForm wide = record { widths = 1 ∷ wide ∷ 4 ∷ 4 ∷ 2 ∷ []; command = λ n. Put (n 0) (n 1) (n 2) (n 3) (n 4) }
+abbrev pub putForm : (width : ℕ) → Form
+putForm width = record { widths = 1 ∷ width ∷ 4 ∷ 4 ∷ 2 ∷ []; command = λ n. Put (n 0) (n 1) (n 2) (n 3) (n 4) }
 
-abbrev pub getForm : (wide : ℕ) → Form
-getForm wide = record { widths = 1 ∷ wide ∷ []; command = λ n. Get (n 0) (n 1) }
+abbrev pub getForm : (width : ℕ) → Form
+getForm width = record { widths = 1 ∷ width ∷ []; command = λ n. Get (n 0) (n 1) }
 
 abbrev pub stepForm : Form
 stepForm = record { widths = 1 ∷ []; command = λ n. Step (n 0) }
 
-abbrev pub lookForm : (wide : ℕ) → Form
-lookForm wide = record { widths = wide ∷ 2 ∷ []; command = λ n. Look (n 0) (n 1) }
+abbrev pub lookForm : (width : ℕ) → Form
+lookForm width = record { widths = width ∷ 2 ∷ []; command = λ n. Look (n 0) (n 1) }
 
 abbrev pub inspectForm : Form
 inspectForm = record { widths = []; command = λ n. Inspect }

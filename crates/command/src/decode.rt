@@ -2,7 +2,7 @@
 ghost use mathlib.Core.Path.{_≡_};
 ghost use Prim.Native.Nat.{_+_, _^_, _≤_, _<_};
 ghost use lib.ListN.{length, take, drop};
-ghost use Rattle.command.specs.Commands.{bigEndian, openForm, putForm, getForm, stepForm, lookForm, Wide, total, commandWith, formFrom, commandFrom};
+ghost use Rattle.command.specs.Commands.{bigEndian, openForm, putForm, getForm, stepForm, lookForm, KeyWidth, total, commandWith, formFrom, commandFrom};
 use crate::types::Command;
 use crate::types::Decoded;
 use model::halves::joined;
@@ -33,13 +33,13 @@ fn number(bytes: &[u8], at: usize, width: usize) -> u32
     big_endian(&bytes[at..end])
 }
 
-// A key of `wide` bytes: the last four are its low half, those before them the high one; of four bytes it is 0.
-fn wide_number(bytes: &[u8], at: usize, wide: usize) -> u64
-    requires { ⌜ at + wide ≤ length (now bytes) ⌝ }
-    requires { ⌜ Wide wide ⌝ }
-    ensures { λ r. ⌜ r ≡ bigEndian (take wide (drop at (now (bytes .entry)))) ⌝ }
+// The key of `width` bytes at `at`: the last four are its low half, those before them the high one; of four bytes it is 0.
+fn key_at(bytes: &[u8], at: usize, width: usize) -> u64
+    requires { ⌜ at + width ≤ length (now bytes) ⌝ }
+    requires { ⌜ KeyWidth width ⌝ }
+    ensures { λ r. ⌜ r ≡ bigEndian (take width (drop at (now (bytes .entry)))) ⌝ }
 {
-    let more = wide - 4;
+    let more = width - 4;
     let high = number(bytes, at, more);
     let low = number(bytes, at + more, 4);
     joined(low, high)
@@ -61,16 +61,16 @@ fn open_at(bytes: &[u8], at: usize) -> Command
     }
 }
 
-// `wide`: how many bytes the key has.
-fn put_at(bytes: &[u8], at: usize, wide: usize) -> Command
-    requires { ⌜ at + total (putForm wide .widths) ≤ length (now bytes) ⌝ }
-    requires { ⌜ Wide wide ⌝ }
-    ensures { λ r. ⌜ r ≡ commandWith (putForm wide) (drop at (now (bytes .entry))) ⌝ }
+// In a put, a get and a look the key has `width` bytes.
+fn put_at(bytes: &[u8], at: usize, width: usize) -> Command
+    requires { ⌜ at + total (putForm width .widths) ≤ length (now bytes) ⌝ }
+    requires { ⌜ KeyWidth width ⌝ }
+    ensures { λ r. ⌜ r ≡ commandWith (putForm width) (drop at (now (bytes .entry))) ⌝ }
 {
     let from = at + 1;
-    let next = from + wide;
+    let next = from + width;
     let process = number(bytes, at, 1);
-    let key = wide_number(bytes, from, wide);
+    let key = key_at(bytes, from, width);
     let value = number(bytes, next, 4);
     let timestamp = number(bytes, next + 4, 4);
     let draw = number(bytes, next + 8, 2) as u16;
@@ -83,13 +83,13 @@ fn put_at(bytes: &[u8], at: usize, wide: usize) -> Command
     }
 }
 
-fn get_at(bytes: &[u8], at: usize, wide: usize) -> Command
-    requires { ⌜ at + total (getForm wide .widths) ≤ length (now bytes) ⌝ }
-    requires { ⌜ Wide wide ⌝ }
-    ensures { λ r. ⌜ r ≡ commandWith (getForm wide) (drop at (now (bytes .entry))) ⌝ }
+fn get_at(bytes: &[u8], at: usize, width: usize) -> Command
+    requires { ⌜ at + total (getForm width .widths) ≤ length (now bytes) ⌝ }
+    requires { ⌜ KeyWidth width ⌝ }
+    ensures { λ r. ⌜ r ≡ commandWith (getForm width) (drop at (now (bytes .entry))) ⌝ }
 {
     let process = number(bytes, at, 1);
-    let key = wide_number(bytes, at + 1, wide);
+    let key = key_at(bytes, at + 1, width);
     Command::Get { process, key }
 }
 
@@ -101,13 +101,13 @@ fn step_at(bytes: &[u8], at: usize) -> Command
     Command::Step { process }
 }
 
-fn look_at(bytes: &[u8], at: usize, wide: usize) -> Command
-    requires { ⌜ at + total (lookForm wide .widths) ≤ length (now bytes) ⌝ }
-    requires { ⌜ Wide wide ⌝ }
-    ensures { λ r. ⌜ r ≡ commandWith (lookForm wide) (drop at (now (bytes .entry))) ⌝ }
+fn look_at(bytes: &[u8], at: usize, width: usize) -> Command
+    requires { ⌜ at + total (lookForm width .widths) ≤ length (now bytes) ⌝ }
+    requires { ⌜ KeyWidth width ⌝ }
+    ensures { λ r. ⌜ r ≡ commandWith (lookForm width) (drop at (now (bytes .entry))) ⌝ }
 {
-    let key = wide_number(bytes, at, wide);
-    let back = number(bytes, at + wide, 2);
+    let key = key_at(bytes, at, width);
+    let back = number(bytes, at + width, 2);
     Command::Look { key, back }
 }
 
@@ -122,26 +122,26 @@ fn open_from(bytes: &[u8], at: usize) -> Decoded
     Decoded::Whole(open_at(bytes, at), 10)
 }
 
-fn put_from(bytes: &[u8], at: usize, wide: usize) -> Decoded
+fn put_from(bytes: &[u8], at: usize, width: usize) -> Decoded
     requires { ⌜ at ≤ length (now bytes) ⌝ }
-    requires { ⌜ Wide wide ⌝ }
-    ensures { λ r. ⌜ r ≡ formFrom (putForm wide) (drop at (now (bytes .entry))) ⌝ }
+    requires { ⌜ KeyWidth width ⌝ }
+    ensures { λ r. ⌜ r ≡ formFrom (putForm width) (drop at (now (bytes .entry))) ⌝ }
 {
-    if bytes.len() - at < 11 + wide {
+    if bytes.len() - at < 11 + width {
         return Decoded::Short;
     }
-    Decoded::Whole(put_at(bytes, at, wide), 12 + wide)
+    Decoded::Whole(put_at(bytes, at, width), 12 + width)
 }
 
-fn get_from(bytes: &[u8], at: usize, wide: usize) -> Decoded
+fn get_from(bytes: &[u8], at: usize, width: usize) -> Decoded
     requires { ⌜ at ≤ length (now bytes) ⌝ }
-    requires { ⌜ Wide wide ⌝ }
-    ensures { λ r. ⌜ r ≡ formFrom (getForm wide) (drop at (now (bytes .entry))) ⌝ }
+    requires { ⌜ KeyWidth width ⌝ }
+    ensures { λ r. ⌜ r ≡ formFrom (getForm width) (drop at (now (bytes .entry))) ⌝ }
 {
-    if bytes.len() - at < 1 + wide {
+    if bytes.len() - at < 1 + width {
         return Decoded::Short;
     }
-    Decoded::Whole(get_at(bytes, at, wide), 2 + wide)
+    Decoded::Whole(get_at(bytes, at, width), 2 + width)
 }
 
 fn step_from(bytes: &[u8], at: usize) -> Decoded
@@ -154,15 +154,15 @@ fn step_from(bytes: &[u8], at: usize) -> Decoded
     Decoded::Whole(step_at(bytes, at), 2)
 }
 
-fn look_from(bytes: &[u8], at: usize, wide: usize) -> Decoded
+fn look_from(bytes: &[u8], at: usize, width: usize) -> Decoded
     requires { ⌜ at ≤ length (now bytes) ⌝ }
-    requires { ⌜ Wide wide ⌝ }
-    ensures { λ r. ⌜ r ≡ formFrom (lookForm wide) (drop at (now (bytes .entry))) ⌝ }
+    requires { ⌜ KeyWidth width ⌝ }
+    ensures { λ r. ⌜ r ≡ formFrom (lookForm width) (drop at (now (bytes .entry))) ⌝ }
 {
-    if bytes.len() - at < 2 + wide {
+    if bytes.len() - at < 2 + width {
         return Decoded::Short;
     }
-    Decoded::Whole(look_at(bytes, at, wide), 3 + wide)
+    Decoded::Whole(look_at(bytes, at, width), 3 + width)
 }
 
 // The command at `at`: its byte chooses the command and the width of a key.

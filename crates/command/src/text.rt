@@ -47,7 +47,7 @@ pub fn put_number(out: &mut [u8], at: usize, n: u32) -> usize
     put_decimal(out, at + 1, n as u64)
 }
 
-// The same of 64 bits.
+// A space and a number of 64 bits.
 pub fn put_wide(out: &mut [u8], at: usize, n: u64) -> usize
     requires { ⌜ at + 21 ≤ length (now out) ⌝ }
     ensures { λ r. ⌜ Wrote (now (out .entry)) (now (out .exit)) at r (spaced (decimal n)) ⌝ }

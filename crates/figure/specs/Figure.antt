@@ -27,7 +27,7 @@ abbrev pub NULL : ℕ
 NULL = 0
 
 -- "two nodes, referred to as the left and right sentinels, with keys MIN and MAX [..]; these values bound the range of valid
--- keys": document 01's trays 0 and 18,446,744,073,709,551,615, which start no call
+-- keys": trays 0 and, by P3, 18,446,744,073,709,551,615, which start no call
 abbrev pub MIN : ℕ
 MIN = 0
 

@@ -85,13 +85,15 @@ others =
     case one (get 0 7) (call (startGet 0 0)) (no-start BadKey) ∷
     case (fit 2 3 2 1) (get 0 7) (call (startGet 0 7)) (no-start Busy) ∷
     case (fit 2 3 2 1) (get 0 7) (call (startGet 1 7)) (no-start Spent) ∷
-    -- P3: "Trays run from 1 to 18,446,744,073,709,551,614, and refusal 6 reads that range."
+    -- "Tray 1 and 4,294,967,294 start."; P3: "Trays run from 1 to 18,446,744,073,709,551,614, and refusal 6 reads that range."
     case one [] (call (startPut 0 0 5 100 1)) (no-start BadKey) ∷
     case one [] (call (startPut 0 1 5 100 1)) (started (Starting.Started 1)) ∷
+    case one [] (call (startPut 0 4_294_967_294 5 100 1)) (started (Starting.Started 1)) ∷
     case one [] (call (startPut 0 4_294_967_295 5 100 1)) (started (Starting.Started 1)) ∷
     case one [] (call (startPut 0 18_446_744_073_709_551_614 5 100 1)) (started (Starting.Started 1)) ∷
     case one [] (call (startPut 0 18_446_744_073_709_551_615 5 100 1)) (no-start BadKey) ∷
     case one [] (call (startGet 0 1)) (started (Starting.Started 1)) ∷
+    case one [] (call (startGet 0 4_294_967_295)) (started (Starting.Started 1)) ∷
     case one [] (call (startGet 0 18_446_744_073_709_551_614)) (started (Starting.Started 1)) ∷
     case one [] (call (startGet 0 18_446_744_073_709_551_615)) (no-start BadKey) ∷
     -- "Step: 10, 5, 8, 9, 11."; "Limit 1: the start is tick 1, the step is refused 9."
@@ -122,6 +124,13 @@ others =
     case (fit 4 4 1 400) alike-in-half (call (look 4_294_967_301 0)) (shows 5 100) ∷
     case (fit 4 4 1 400) alike-in-half (call (look 8_589_934_597 0)) (no-look NoKey) ∷
     case (fit 4 4 1 400) alike-in-half inspect (inspected Inspecting.Sound) ∷
+    -- a long tray in a call, in the ledger, put again, and linked on every level
+    case one (put 0 4_294_967_301 5 100) (process 0) (kept Put 4_294_967_301 5 100 0 1 Walk 5 0 0 None 0 (replicate 6 0)) ∷
+    case one (put 11 4_294_967_301 5 100) ledger (lists (entry 4_294_967_301 5 100 ∷ [])) ∷
+    case one (put 11 4_294_967_301 5 100 ++ put 10 4_294_967_301 6 100) (call (step 0)) (done Put Added 6 100 13 23 24) ∷
+    case one (put 11 4_294_967_301 5 100 ++ put 10 4_294_967_301 6 99) (call (step 0)) (done Put TooOld 6 99 13 23 24) ∷
+    case one (startPut 0 4_294_967_301 5 100 0 ∷ steps 35 0) (call (step 0)) (done Put New 5 100 1 11 37) ∷
+    case one (startPut 0 4_294_967_301 5 100 0 ∷ steps 36 0 ++ put 11 5 6 100) inspect (inspected Inspecting.Sound) ∷
     case (fit 3 3 1 400) (tall ++ steps 1 0) tables (words (
     0 ∷ 0 ∷ 5 ∷ 0 ∷ 1 ∷ 1 ∷ 1 ∷ 1 ∷ 1 ∷ 1 ∷ replicate 6 0
     ++ (3 ∷ 1 ∷ 5 ∷ 0 ∷ 3 ∷ 3 ∷ 3 ∷ 3 ∷ 2 ∷ 2 ∷ replicate 6 0)
@@ -197,6 +206,7 @@ others =
     -- the last line of the sheet that document 01 prints; "Look: 10, 6, 12, 11, 13", and the older versions
     case (fit 2 3 1 40) (get 6 7) (call (look 7 0)) (no-look NoKey) ∷
     case one [] (call (look 0 0)) (no-look BadKey) ∷
+    case one [] (call (look 18_446_744_073_709_551_614 0)) (no-look NoKey) ∷
     case one [] (call (look 18_446_744_073_709_551_615 0)) (no-look BadKey) ∷
     case one thrice (call (look 7 0)) (shows 8 101) ∷
     case one thrice (call (look 7 1)) (shows 6 100) ∷

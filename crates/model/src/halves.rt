@@ -1,4 +1,4 @@
-// A key of 64 bits in two words of 32: the only code that knows of halves.
+// A key of 64 bits in two words of 32: all arithmetic on its halves.
 ghost use mathlib.Core.Path.{_≡_};
 ghost use Rattle.model.specs.Layout.{lowHalf, highHalf, joined};
 

@@ -1,4 +1,4 @@
-// Refusal 10: what is within the limits of document 01.
+// Refusals 10 and 6: what is within the limits of document 01 and of P3.
 ghost use mathlib.Core.Bool.{_&&_};
 ghost use mathlib.Core.Path.{_≡_};
 ghost use Prim.Native.Nat.{_<_};
@@ -16,6 +16,7 @@ pub fn within(low: u32, high: u32, n: u32) -> bool
     (low <= n) & (n <= high)
 }
 
+// Refusal 6.
 pub fn lawful_key(key: u64) -> bool
     ensures { λ r. ⌜ r ≡ lawfulKey key ⌝ }
 {

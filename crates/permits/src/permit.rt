@@ -75,12 +75,12 @@ pub fn start_permit(
 {
     let lawful = lawful_store(h, nodes, versions);
     let no_process = h[1] <= process;
-    let lawful_key = lawful_key(key);
+    let in_range = lawful_key(key);
     let idle = is_idle(kind);
     let spent = h[2] <= h[3];
     let nine = deny_if(spent, Refusal::Spent, Permit::Granted);
     let seven = deny_unless(idle, Refusal::Busy, nine);
-    let six = deny_unless(lawful_key, Refusal::BadKey, seven);
+    let six = deny_unless(in_range, Refusal::BadKey, seven);
     let five = deny_if(no_process, Refusal::NoProcess, six);
     deny_unless(lawful, Refusal::Corrupt, five)
 }
@@ -120,8 +120,8 @@ pub fn look_permit(h: &[u32], nodes: &[u32], versions: &[u32], key: u64) -> Perm
     ensures { λ r. ⌜ ((s : State) → headerOf s ≡ now (h .entry) → r ≡ lookPermit s (now (nodes .entry)) (now (versions .entry)) key) ⌝ }
 {
     let lawful = lawful_store(h, nodes, versions);
-    let lawful_key = lawful_key(key);
-    let six = deny_unless(lawful_key, Refusal::BadKey, Permit::Granted);
+    let in_range = lawful_key(key);
+    let six = deny_unless(in_range, Refusal::BadKey, Permit::Granted);
     deny_unless(lawful, Refusal::Corrupt, six)
 }
 

@@ -6,7 +6,7 @@ use crate::words::{Part, Words, LEVEL, PHASE, PRED};
 use std::collections::{BTreeMap, BTreeSet};
 use std::fmt;
 use store_tests::damage::Operation;
-use store_tests::model::{high_half, low_half, Call, LAST_KEY, MAX_LIMIT};
+use store_tests::model::{high_half, low_half, Call, FIRST_KEY, LAST_KEY, MAX_LIMIT};
 
 const PHASES: [&str; 9] = ["walk", "read", "seek", "lock", "check", "update", "make", "link", "release"];
 const ANSWERS: [&str; 7] = ["too-old", "readings-full", "added", "trays-full", "new", "found", "none"];
@@ -130,6 +130,7 @@ fn key_kinds(before: &Before, words: &Words, operation: Operation, outcome: &Out
             done.into_iter().chain(by_high.then(|| format!("step 0 {phase} by the high half"))).collect()
         }
         (0, Operation::Inspect) => inspected_by_high(words, outcome).into_iter().collect(),
+        (0, Operation::Start { .. }) if [FIRST_KEY, LAST_KEY].contains(&key) => vec![format!("{name} 0 {key}")],
         (0, Operation::Start { .. }) | (0 | 11..=13, Operation::Look { .. }) if long => {
             vec![format!("{name} {number}, long tray")]
         }
@@ -155,14 +156,17 @@ fn inspected_by_high(words: &Words, outcome: &Outcome) -> Option<String> {
 
 /// All kinds of `key_kinds` that can be met.
 fn possible_of_keys() -> impl Iterator<Item = String> {
-    let starts = ["start-put", "start-get"].map(|name| format!("{name} 0, long tray"));
+    let starts = ["start-put", "start-get"].into_iter();
+    let ends = [FIRST_KEY, LAST_KEY].map(|key| format!("0 {key}"));
+    let started = [ends[0].clone(), ends[1].clone(), "0, long tray".to_string()];
+    let starts = starts.flat_map(move |name| started.clone().map(|kind| format!("{name} {kind}")));
     let looks = [0, 11, 12, 13].map(|number| format!("look {number}, long tray"));
     let refused = ["start-put", "start-get", "look"].into_iter();
     let refused = refused.flat_map(|name| [0, LAST_KEY + 1].map(|key| format!("{name} 6 {key}")));
     let done = ANSWERS.map(|answer| format!("step 0 {answer}, long tray"));
     let steps = COMPARING.map(|phase| format!("step 0 {phase} by the high half"));
     let inspected = ["sound", "fault"].map(|what| format!("inspect 0 {what} by the high half"));
-    starts.into_iter().chain(looks).chain(refused).chain(done).chain(steps).chain(inspected)
+    starts.chain(looks).chain(refused).chain(done).chain(steps).chain(inspected)
 }
 
 /// All kinds that can be met.

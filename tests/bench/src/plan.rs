@@ -22,11 +22,12 @@ impl Random {
         let long = self.long();
         let half = long & 0xFFFF_FFFF;
         let shared = SHARED[(long >> 32) as usize % SHARED.len()];
-        match (long >> 34) % 3 {
+        let key = match (long >> 34) % 3 {
             0 => long,
             1 => shared << 32 | half,
             _ => half << 32 | shared,
-        }
+        };
+        key.clamp(1, u64::MAX - 1)
     }
 }
 

@@ -55,6 +55,7 @@ const WORDS: [&str; 3] = ["put", "get", "look"];
 const LONG: &str = "long tray";
 const SHORT_IN_EIGHT: &str = "short tray in eight bytes";
 const LAST_IN_FOUR: &str = "tray 4294967295 in four bytes";
+const ENDS: [&str; 2] = ["first tray", "last tray"];
 const MADE: [&str; 2] = ["new tray, its low half held", "new tray, its high half held"];
 const OTHER_WIDTH: [&str; 2] = ["get found in the other width", "look in the other width"];
 
@@ -62,7 +63,8 @@ const OTHER_WIDTH: [&str; 2] = ["get found in the other width", "look in the oth
 fn possible_keys() -> Vec<String> {
     let mut kinds = Vec::new();
     for word in WORDS {
-        kinds.extend([LONG, SHORT_IN_EIGHT, LAST_IN_FOUR].map(|key| format!("{word}, {key}")));
+        let carried = [LONG, SHORT_IN_EIGHT, LAST_IN_FOUR].into_iter().chain(ENDS);
+        kinds.extend(carried.map(|key| format!("{word}, {key}")));
         let refused = [Key::Four(0), Key::Eight(FIRST_KEY - 1), Key::Eight(LAST_KEY + 1)];
         kinds.extend(refused.map(|key| refused_6(word, key)));
     }
@@ -157,9 +159,11 @@ fn carried(word: &str, key: Key, line: &str) -> Option<String> {
     }
     let of = match key {
         _ if line.starts_with("refused") => return None,
+        Key::Eight(LAST_KEY) => ENDS[1],
         Key::Eight(_) if is_long(key) => LONG,
         Key::Eight(_) => SHORT_IN_EIGHT,
         Key::Four(u32::MAX) => LAST_IN_FOUR,
+        Key::Four(_) if key.number() == FIRST_KEY => ENDS[0],
         Key::Four(_) => return None,
     };
     Some(format!("{word}, {of}"))

@@ -15,7 +15,7 @@ use store_tests::model::{low_half, Call, State, Store};
 #[derive(Clone, Copy, Debug, PartialEq, Eq)]
 pub enum Slip {
     None,
-    /// A step, a look or an inspection of the model's own slips.
+    /// A start, a step, a look or an inspection of the model's own slips.
     Model(broken::Slip),
     /// A step's answer has another word.
     Answer(usize),
@@ -69,9 +69,8 @@ unsafe fn turn(lent: Lent, operation: Operation, answer: *mut u32) -> u32 {
     let wide = Part::ALL.into_iter().find(|&part| lent[part as usize].1 >= WIDE);
     let wide = wide.filter(|_| slip != Slip::ShortLengths);
     let mut outcome = match (slip, operation) {
-        (Slip::Model(slip), Operation::Step { .. } | Operation::Look { .. } | Operation::Inspect) => {
-            broken_call(&mut words, slip, operation)
-        }
+        (Slip::Model(_), Operation::Open { .. } | Operation::Status { .. }) => perform(&mut words, wide, operation),
+        (Slip::Model(slip), _) => broken_call(&mut words, slip, operation),
         (Slip::ShortKeys, _) => perform(&mut words, wide, short(operation)),
         _ => perform(&mut words, wide, operation),
     };
@@ -163,6 +162,7 @@ fn broken_call(words: &mut Words, slip: broken::Slip, operation: Operation) -> O
     let [_, node_table, version_table, tally] = std::mem::take(&mut words.0);
     let mut broken = Broken { store: Store { state, node_table, version_table, tally }, slip };
     let reply = match operation {
+        Operation::Start { process, call } => broken.start(process, call).map(Reply::Started),
         Operation::Step { process } => broken.step(process).map(Reply::Stepped),
         Operation::Look { key, back } => broken.look(key, back).map(|(value, stamp)| Reply::Looked(value, stamp)),
         _ => broken.inspect().map(Reply::Inspected),

@@ -86,7 +86,18 @@ unfolding codeFrom
 returns-11 c =
     let h = c .match .rest in
     let a = c .before .before .before .before .args in
-    simp (byte-at (a .bytes .now) (a .at) (c .before .before .if1 .left), ne-eqb _ _ (h .0 .0 .0 .0 .0 .0 .0 .0 .1), ne-eqb _ _ (h .0 .0 .0 .0 .0 .0 .0 .1), ne-eqb _ _ (h .0 .0 .0 .0 .0 .0 .1), ne-eqb _ _ (h .0 .0 .0 .0 .0 .1), ne-eqb _ _ (h .0 .0 .0 .0 .1), ne-eqb _ _ (h .0 .0 .0 .1), ne-eqb _ _ (h .0 .0 .1), ne-eqb _ _ (h .0 .1), ne-eqb _ _ (h .1))
+    simp (
+      byte-at (a .bytes .now) (a .at) (c .before .before .if1 .left),
+      ne-eqb _ _ (h .0 .0 .0 .0 .0 .0 .0 .0 .1),
+      ne-eqb _ _ (h .0 .0 .0 .0 .0 .0 .0 .1),
+      ne-eqb _ _ (h .0 .0 .0 .0 .0 .0 .1),
+      ne-eqb _ _ (h .0 .0 .0 .0 .0 .1),
+      ne-eqb _ _ (h .0 .0 .0 .0 .1),
+      ne-eqb _ _ (h .0 .0 .0 .1),
+      ne-eqb _ _ (h .0 .0 .1),
+      ne-eqb _ _ (h .0 .1),
+      ne-eqb _ _ (h .1),
+    )
 
 pub decode-spec : {M : Type 1} → statement M
 decode-spec =

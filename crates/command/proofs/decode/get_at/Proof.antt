@@ -9,11 +9,11 @@ use Rattle.command.proofs.decode.get_at.Tie as tie
 number-requires : tie.Need-number-requires
 number-requires c κs = search needs
 
-add-wide-number : tie.Need-add-wide-number
-add-wide-number c = search needs
+add-key-at : tie.Need-add-key-at
+add-key-at c = search needs
 
-wide-number-requires : tie.Need-wide-number-requires
-wide-number-requires c κs = search needs
+key-at-requires : tie.Need-key-at-requires
+key-at-requires c κs = search needs
 
 returns : tie.Need-returns
 returns c =
@@ -22,4 +22,4 @@ returns c =
     cc (skip l (a .at) 1 (a .at + 1) (omega arith))
 
 pub get-at-spec : {M : Type 1} → statement M
-get-at-spec = tie.close (tie.spec number-requires add-wide-number wide-number-requires returns)
+get-at-spec = tie.close (tie.spec number-requires add-key-at key-at-requires returns)

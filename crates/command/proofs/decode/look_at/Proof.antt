@@ -6,8 +6,8 @@ use borrow.Author.Needs.{needs}
 use Rattle.command.proofs.decode.look_at.Statement.{statement}
 use Rattle.command.proofs.decode.look_at.Tie as tie
 
-wide-number-requires : tie.Need-wide-number-requires
-wide-number-requires c κs = search needs
+key-at-requires : tie.Need-key-at-requires
+key-at-requires c κs = search needs
 
 add-number : tie.Need-add-number
 add-number c = search needs
@@ -19,7 +19,7 @@ returns : tie.Need-returns
 returns c =
     let a = c .before .before .before .args in
     let l = a .bytes .now in
-    cc (skip l (a .at) (a .wide) (a .at + a .wide) (omega arith))
+    cc (skip l (a .at) (a .width) (a .at + a .width) (omega arith))
 
 pub look-at-spec : {M : Type 1} → statement M
-look-at-spec = tie.close (tie.spec wide-number-requires add-number number-requires returns)
+look-at-spec = tie.close (tie.spec key-at-requires add-number number-requires returns)

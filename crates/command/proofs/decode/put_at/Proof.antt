@@ -15,8 +15,8 @@ add-next c = search needs
 number-requires : tie.Need-number-requires
 number-requires c κs = search needs
 
-wide-number-requires : tie.Need-wide-number-requires
-wide-number-requires c κs = search needs
+key-at-requires : tie.Need-key-at-requires
+key-at-requires c κs = search needs
 
 number-requires-2 : tie.Need-number-requires-2
 number-requires-2 c κs = search needs
@@ -40,8 +40,13 @@ returns : tie.Need-returns
 returns c =
     let a = c .before .before .before .before .before .before .args in
     let l = a .bytes .now in
-    let next = a .at + 1 + a .wide in
-    cc (skip l (a .at) 1 (a .at + 1) (omega arith), skip l (a .at + 1) (a .wide) next (omega arith), skip l next 4 (next + 4) (omega arith), skip l (next + 4) 4 (next + 8) (omega arith))
+    let next = a .at + 1 + a .width in
+    cc (
+      skip l (a .at) 1 (a .at + 1) (omega arith),
+      skip l (a .at + 1) (a .width) next (omega arith),
+      skip l next 4 (next + 4) (omega arith),
+      skip l (next + 4) 4 (next + 8) (omega arith),
+    )
 
 pub put-at-spec : {M : Type 1} → statement M
 put-at-spec =
@@ -50,7 +55,7 @@ put-at-spec =
     add-from
     add-next
     number-requires
-    wide-number-requires
+    key-at-requires
     number-requires-2
     add-number
     number-requires-3

@@ -6,8 +6,8 @@ use lib.ListN.{take, drop}
 use Rattle.command.specs.Commands.{bigEndian}
 use Rattle.command.proofs.Bytes.{low-behind}
 use borrow.Author.Needs.{needs}
-use Rattle.command.proofs.decode.wide_number.Statement.{statement}
-use Rattle.command.proofs.decode.wide_number.Tie as tie
+use Rattle.command.proofs.decode.key_at.Statement.{statement}
+use Rattle.command.proofs.decode.key_at.Tie as tie
 
 sub-more : tie.Need-sub-more
 sub-more c = search needs
@@ -28,12 +28,12 @@ returns : tie.Need-returns
 returns c =
     let a = c .before .before .before .before .args in
     let l = a .bytes .now in
-    let whole : a .wide - 4 + 4 ≡ a .wide = omega arith in
+    let whole : a .width - 4 + 4 ≡ a .width = omega arith in
     c .joined .ensures
     ∙ simp (c .before .number2 .ensures .0, c .before .before .number .ensures .0)
-    (sym (low-behind l (a .at) (a .wide - 4) (omega arith)) ∙ ap (λ w. bigEndian (take w (drop (a .at) l))) whole)
+    (sym (low-behind l (a .at) (a .width - 4) (omega arith)) ∙ ap (λ w. bigEndian (take w (drop (a .at) l))) whole)
 
-pub wide-number-spec : {M : Type 1} → statement M
-wide-number-spec =
+pub key-at-spec : {M : Type 1} → statement M
+key-at-spec =
     tie.close
     (tie.spec sub-more number-requires add-number number-requires-2 joined-requires returns)
