@@ -50,20 +50,25 @@ fn ticks_three_processes_and_a_short_limit() {
     with_ticks(2, 2, 13, &[&[put(5, 2, 1)], &[put(3, 2, 1)], &[get(5)]]);
 }
 
-/// Two processes with one call each, on a store that has the keys 4 (top 1) and 8 (top 0): every pair of calls.
+/// Two processes with one call each, after the first calls: every pair.
+fn explore_pairs(first: &[Call], calls: &[Call]) {
+    let mut total = 0;
+    for (place, &one) in calls.iter().enumerate() {
+        for &other in &calls[place..] {
+            total += run(&scope(4, 4, first, &[&[one], &[other]])).points;
+        }
+    }
+    println!("{} calls, {total} points", calls.len());
+}
+
+/// On a store that has the keys 4 (top 1) and 8 (top 0).
 #[test]
 fn every_pair_of_calls() {
     let first = [put(8, 5, 1), put(4, 5, 2)];
     let mut calls = vec![get(4), get(6), get(8)];
     calls.extend([2, 4, 6, 8, 9].iter().flat_map(|&key| [put(key, 5, 1), put(key, 6, 4)]));
     calls.extend([put(4, 4, 2), put(6, 4, 2), put(8, 4, 2)]);
-    let mut total = 0;
-    for (place, &one) in calls.iter().enumerate() {
-        for &other in &calls[place..] {
-            total += run(&scope(4, 4, &first, &[&[one], &[other]])).points;
-        }
-    }
-    println!("{} calls, {total} points", calls.len());
+    explore_pairs(&first, &calls);
 }
 
 /// Too few nodes or versions for all: who comes first gets them.
@@ -119,19 +124,13 @@ const LAST_OF_32: u64 = 0xFFFF_FFFF;
 const FIRST_BEYOND: u64 = 1 << 32;
 const SAME_LOW: u64 = FIRST_BEYOND + SHORT;
 
-/// Two processes with one call each, on a store that has a key of 32 bits and one above: every pair of calls.
+/// On a store that has a key of 32 bits and one above.
 #[test]
 fn every_pair_of_calls_on_keys_that_agree_in_one_half() {
     let first = [put(LAST_OF_32, 5, 1), put(SAME_LOW, 5, 2)];
     let keys = [SHORT, LAST_OF_32, FIRST_BEYOND, SAME_LOW];
     let calls: Vec<Call> = keys.iter().flat_map(|&key| [get(key), put(key, 5, 1), put(key, 6, 4)]).collect();
-    let mut total = 0;
-    for (place, &one) in calls.iter().enumerate() {
-        for &other in &calls[place..] {
-            total += run(&scope(4, 4, &first, &[&[one], &[other]])).points;
-        }
-    }
-    println!("{} calls, {total} points", calls.len());
+    explore_pairs(&first, &calls);
 }
 
 #[test]
