@@ -31,8 +31,9 @@ impl fmt::Display for Failure {
 pub struct Run<'a> {
     pub subject: Subject<'a>,
     pub met: Met,
-    /// Calls made so far.
+    /// Calls made so far, and those of each plan.
     pub calls: u64,
+    by_plan: [u64; PLANS.len()],
     seed: u64,
     /// Calls of this seed so far.
     call: u64,
@@ -42,24 +43,31 @@ pub struct Run<'a> {
 pub const ENOUGH: u64 = 1_600;
 /// Seeds in a row that meet every plan.
 pub const ROUND: u64 = 64;
-/// A plan: how many seeds of a round it has, and what it does with one.
-type Plan = (u64, fn(&mut Run, u64) -> Result<(), Failure>);
+/// A plan: its name, how many seeds of a round it has, and what it does with one.
+type Plan = (&'static str, u64, fn(&mut Run, u64) -> Result<(), Failure>);
 const PLANS: [Plan; 10] = [
-    (16, |run, seed| run.cases(cases::damaged(seed))),
-    (14, |run, seed| run.cases(cases::one_word(seed))),
-    (6, |run, seed| run.cases(cases::heads(seed))),
-    (10, |run, seed| run.cases(cases::tables(seed))),
-    (4, |run, seed| run.cases(cases::lengths(seed))),
-    (8, |run, seed| run.cases(cases::random_words(seed))),
-    (1, |run, seed| run.cases(cases::draws(seed))),
-    (2, |run, seed| history::history(run, seed, false)),
-    (2, |run, seed| history::history(run, seed, true)),
-    (1, history::fill),
+    ("damage", 16, |run, seed| run.cases(cases::damaged(seed))),
+    ("one word", 14, |run, seed| run.cases(cases::one_word(seed))),
+    ("heads", 6, |run, seed| run.cases(cases::heads(seed))),
+    ("tables", 10, |run, seed| run.cases(cases::tables(seed))),
+    ("lengths", 4, |run, seed| run.cases(cases::lengths(seed))),
+    ("random words", 8, |run, seed| run.cases(cases::random_words(seed))),
+    ("draws", 1, |run, seed| run.cases(cases::draws(seed))),
+    ("histories", 2, |run, seed| history::history(run, seed, false)),
+    ("altered histories", 2, |run, seed| history::history(run, seed, true)),
+    ("fills", 1, history::fill),
 ];
 
 impl<'a> Run<'a> {
     pub fn new(interface: &'a Interface) -> Run<'a> {
-        Run { subject: Subject::new(interface), met: Met::default(), calls: 0, seed: 0, call: 0 }
+        Run {
+            subject: Subject::new(interface),
+            met: Met::default(),
+            calls: 0,
+            by_plan: [0; PLANS.len()],
+            seed: 0,
+            call: 0,
+        }
     }
 
     /// Whole seeds from this one on, until so many calls are made. Gives the seed that would be next.
@@ -77,13 +85,21 @@ impl<'a> Run<'a> {
         watch::seed(seed);
         (self.seed, self.call) = (seed, 0);
         let (round, mut place) = (seed / ROUND, seed % ROUND);
-        for (share, plan) in PLANS {
+        for (number, (_, share, plan)) in PLANS.into_iter().enumerate() {
             if place < share {
-                return plan(self, round * share + place);
+                plan(self, round * share + place)?;
+                self.by_plan[number] += self.call;
+                return Ok(());
             }
             place -= share;
         }
         unreachable!("the shares are those of a whole round")
+    }
+
+    /// The calls of each plan, as a line.
+    pub fn plans(&self) -> String {
+        let told = PLANS.iter().zip(self.by_plan).map(|((name, ..), calls)| format!("{name} {calls}"));
+        told.collect::<Vec<_>>().join(", ")
     }
 
     pub fn cases(&mut self, cases: Vec<Case>) -> Result<(), Failure> {

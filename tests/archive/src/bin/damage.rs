@@ -45,7 +45,7 @@ fn compare(options: &Options) -> Result<(), String> {
     let begun = Instant::now();
     let mut run = Run::new(&ARCHIVE);
     let next = run.calls(options.from, options.calls).map_err(|failure| failure.to_string())?;
-    println!("{}", run.met);
+    println!("{}\ncalls by plan: {}", run.met, run.plans());
     let (calls, seconds) = (run.calls, begun.elapsed().as_secs_f64());
     println!("same: {calls} calls of seeds {} to {next}, the last not included, {seconds:.1} seconds", options.from);
     if next - options.from < ENOUGH {
