@@ -11,12 +11,13 @@ use lib.Seq.{getD-set-same, set-set}
 use Rattle.model.specs.Layout.{Memory, limits}
 use Rattle.model.specs.State.{idleProcess, noProcess, withEvent, lawfulKey}
 use Rattle.model.specs.Phases.{moved, turnOf}
-use Rattle.model.specs.Calls.{openOf, begun, startPermit, startBy, Store, Stepped, stepOf}
-use Rattle.model.specs.History.{Action, History, withState, perform, performAll, begin}
+use Rattle.model.specs.Calls.{begun, startPermit, startBy, Store, Stepped, stepOf}
+use Rattle.model.specs.History.{Action, act, performAll, begin}
+use Rattle.model.specs.ByValue.{withState, byValue}
 use Rattle.model.proofs.Laws.{granted-iff}
 use Rattle.model.proofs.Live.{memory, slot, Live}
-use Rattle.model.proofs.Opened.{opened-live}
-use Rattle.model.proofs.Claimed.{performed-live}
+use Rattle.model.proofs.Seen.{Seen, seen}
+use Rattle.model.proofs.Linearized.{act-live, performed-live, fresh-live}
 use Rattle.figure.specs.Types.{Kind, Answer, Call, Version, End, Permit, Granted, Denied, Refusal, Starting, StartResult, Stepping}
 use Rattle.figure.specs.Figure.{MAX}
 use Rattle.figure.specs.Alone.{Turned, turned, moves, Reached, rested}
@@ -87,7 +88,7 @@ module _ (w : Store) (i : ℕ) (call : Call) where
   abbrev pub Finishes : (n : ℕ) → Memory → Answer → Version → (effect : ℕ) → Turned
   Finishes n m a v e = Says (n - 1) (call .kind) start a v e (start + n) (rested w i (n + 1) m a)
 
-  module _ {K W : ℕ} {h : History} (l : Live K W w₁ h) (below : i < w .state .processes) (start-is : call .start ≡ start) where
+  module _ {K W : ℕ} {h : Seen} (l : Live K W w₁ h) (below : i < w .state .processes) (start-is : call .start ≡ start) where
     inside : i < length (w .state .process)
     inside = omega (arith, l .core .array, l .core .processes, length-set (w .state .process) i (begun call))
 
@@ -158,25 +159,19 @@ module _ (w : Store) (i : ℕ) (call : Call) where
 pub record Lives (w : Store) : Type 0 where
   pub K : ℕ
   pub W : ℕ
-  pub history : History
+  pub history : Seen
   pub live : Live K W w history
 
 pub reached-lives : {w : Store} → Reached w → Lives w
 reached-lives r =
-    let run = begin (openOf (r .nodes) (r .versions) (r .processes) (r .limit)) (r .processes) (r .limit) in
+    let run = begin byValue (r .given) (r .fresh) in
     subst Lives (r .left) (record {
       K = _;
       W = _;
-      history = performAll run (r .actions) .history;
-      live = performed-live run (r .actions) (opened-live (r .nodes) (r .versions) (r .processes) (r .limit) (r .opened));
+      history = seen (performAll run (r .actions) .history);
+      live = performed-live run (r .actions) (fresh-live (r .given) (r .fresh) (r .opens));
     })
 
 -- one action more
-pub acted-lives : {w : Store} (l : Lives w) (a : Action) → Lives (perform (record { store = w; history = l .history }) a .store)
-unfolding performAll
-acted-lives l a = record {
-  K = l .K;
-  W = l .W;
-  history = _;
-  live = performed-live (record { store = _; history = l .history }) (a ∷ []) (l .live);
-}
+pub acted-lives : {w : Store} (l : Lives w) (a : Action) → Lives (act byValue w a .store)
+acted-lives l a = record { K = l .K; W = l .W; history = _; live = act-live (l .live) a }

@@ -17,8 +17,7 @@ use Rattle.model.specs.State as State
 use Rattle.model.specs.Phases as Phases
 use Rattle.model.specs.Calls as Calls
 use Rattle.model.specs.Calls.{openOf, topOf, Store}
-use Rattle.model.specs.History.{begin}
-use Rattle.model.specs.Linearizability as Linearizability
+use Rattle.model.specs.ByValue.{freshStore}
 use Rattle.figure.specs.Figure as Figure
 use Rattle.figure.specs.Figure.{new, alone, put}
 use Rattle.figure.specs.Steps as Steps
@@ -40,7 +39,7 @@ case K W calls = record { K = K; W = W; calls = calls }
 
 -- a store that is freshly opened in tables full of rubbish, and what the figure's new leaves
 abbrev pub opened : (K W : ℕ) → Store
-opened K W = begin (openOf (replicate (nodeWords * (K + 1)) 77) (replicate (versionWords * (W + 1)) 77) 2 400) 2 400 .store
+opened K W = freshStore (openOf (replicate (nodeWords * (K + 1)) 77) (replicate (versionWords * (W + 1)) 77) 2 400)
 
 abbrev pub fresh : (K W : ℕ) → Memory
 fresh K W = new 6 (nodeWords * (K + 1)) (versionWords * (W + 1)) 77
@@ -64,7 +63,7 @@ unfolding Layout.capacity Layout.joined Layout.word Layout.withWord Layout.withN
     Phases.lockOf Phases.checkBy Phases.checkOf Phases.addVersion Phases.updateNode Phases.updateAt Phases.updateOf
     Phases.addNode Phases.makeOf Phases.addLink Phases.linkOf Phases.isNew Phases.rise Phases.released Phases.freed
     Phases.releaseOf Phases.fromPut Phases.lawfulAt Phases.lawfulProcess Phases.phaseOf Phases.turnOf
-    Calls.openPermit Calls.openBy openOf trailingZeros topOf Calls.startPermit Calls.startBy Calls.startPutOf Calls.startGetOf
+    Calls.openDue Calls.openBy openOf trailingZeros topOf Calls.startPermit Calls.startBy Calls.callFor Calls.startOf
     Calls.stepPermit Calls.processAfter Calls.outcomeOf Calls.counted Calls.tallyAfter Calls.stepBy Calls.stepOf
     Figure.keyOf Figure.refNode Figure.find Figure.findAll Figure.get Figure.link Figure.create Figure.createAndLink Figure.update
     Figure.findLock Figure.insert Figure.tryInsert Figure.insertAbove Figure.insertAll Figure.putH put
@@ -86,7 +85,7 @@ by-figure c = record {
 }
 
 unfoldable pub by-ledger : Case → List Reply
-unfolding Map.versionsOf Map.held Map.pushed Map.putBy Map.putIn Map.getBy Map.getFrom Linearizability.fedBy Linearizability.replyBy ledgerAll
+unfolding Map.versionsOf Map.held Map.pushed Map.putBy Map.putIn Map.getBy Map.getFrom Map.applied ledgerAll
 by-ledger c = ledgerAll (c .K) (c .W) [] (c .calls)
 
 -- ---- the three agree

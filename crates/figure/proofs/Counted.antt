@@ -9,7 +9,7 @@ use Rattle.model.specs.Layout.{Memory, limits, nodeWords, versionWords, capacit
 use Rattle.model.specs.Map.{held, versionsOf, PutResult, putBy, putIn, Reply, getBy, getFrom}
 use Rattle.model.specs.State.{within, lawfulLength, lawfulNodes, lawfulVersions, lawfulKey}
 use Rattle.model.specs.Calls.{topOf}
-use Rattle.model.specs.Linearizability.{replyBy}
+use Rattle.model.specs.Map.{applied}
 use Rattle.model.proofs.Opened.{opened-live}
 use Rattle.model.proofs.Tests.{if-by, if-no, and→}
 use Rattle.model.proofs.Invariant.{Ghost, Nodes}
@@ -104,11 +104,11 @@ module _ {K W : ℕ} {m : Memory} (O : Ordered K W m []) (hK : 1 ≤ K) (hW : 1 
       )
 
   gets-none : get bound m k .answer ≡ None
-  unfolding figureReply replyBy
+  unfolding figureReply applied
   gets-none = ap (λ (r : Reply). r .answer) (does O bound (omega (arith, no-nodes)) (getting 0 k) lawful .replies) ∙ none-held k
 
   puts-new : (i v t draw : ℕ) → put alone i bound m k v t draw .answer ≡ New
-  unfolding figureReply replyBy
+  unfolding figureReply applied
   puts-new i v t draw = ap (λ (r : Reply). r .answer)
       (does O bound (omega (arith, no-nodes)) (putting i k v t draw) lawful .replies)
       ∙ new-put K W k (record { value = v; timestamp = t }) hK hW

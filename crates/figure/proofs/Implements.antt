@@ -5,20 +5,22 @@ use mathlib.Core.Path.{_≡_, refl, sym, ap, _∙_, subst}
 use native.Mathlib.Omega.{arith}
 use lib.ListN.{length, replicate, length-replicate}
 use Rattle.model.specs.Layout.{Memory, nodeWords, versionWords, capacity, lock}
-use Rattle.model.specs.Map.{Map, putIn, answered, Reply}
+use Rattle.model.specs.Map.{Map, putIn, answered, Reply, Applied, applied}
 use Rattle.model.specs.State.{lawfulNodes, lawfulVersions}
 use Rattle.model.specs.Phases.{ownVersion, maxNodes, maxVersions}
-use Rattle.model.specs.Calls.{openOf, topOf, Store}
-use Rattle.model.specs.History.{Invoked, emptyHistory, putOperation, begin}
-use Rattle.model.specs.Linearizability.{fedBy, replyBy, replyOf, All}
+use Rattle.model.specs.Calls.{openOf, callFor, topOf, Store}
+use Rattle.model.specs.Requests as Requests
+use Rattle.model.proofs.Seen.{emptySeen}
+use Rattle.model.specs.ByValue.{freshStore}
+use Rattle.model.specs.Linearizability.{All}
 use Rattle.model.proofs.Tests.{by-le}
 use Rattle.model.proofs.Laws.{top-at-most, open-accepted}
 use Rattle.model.proofs.Invariant.{Ghost, Nodes, Book}
 use Rattle.model.proofs.Effects.{Took, played}
 use Rattle.model.proofs.Live.{Live}
-use Rattle.model.proofs.Stepped.{put-reply, put-fed}
+use Rattle.model.proofs.Stepped.{put-applied}
 use Rattle.model.proofs.Opened.{opened-live}
-use Rattle.figure.specs.Types.{Answer, Opening}
+use Rattle.figure.specs.Types.{Answer, Call, Opening}
 use Rattle.figure.specs.Figure.{HMAX, MAX, head, alone, put}
 use Rattle.figure.specs.Alone.{memoryIn, Free, Unlocked}
 use Rattle.figure.specs.OneByOne.{Request, putting, getting, operationOf, figureReply, figureMemory, figureAll, ledgerAll, Lawful, FigureImplements}
@@ -41,12 +43,12 @@ pub record Ordered (K W : ℕ) (m : Memory) (b : Map) : Type 0 where
 
 -- one call
 pub record Does (K W bound : ℕ) (m : Memory) (b : Map) (r : Request) : Type 0 where
-  pub replies : figureReply bound m r ≡ replyOf K W b (operationOf r)
-  pub leaves : Ordered K W (figureMemory bound m r) (fedBy (operationOf r .kind) K W b (operationOf r))
+  pub replies : figureReply bound m r ≡ applied K W b (operationOf r) .reply
+  pub leaves : Ordered K W (figureMemory bound m r) (applied K W b (operationOf r) .map)
 
 module _ {K W : ℕ} {m : Memory} {b : Map} (O : Ordered K W m b) (bound : ℕ) (room : m .counts .nodes < bound) where
   gets : (i k : ℕ) → (1 ≤ k) × (k < MAX) → Does K W bound m b (getting i k)
-  unfolding figureReply figureMemory replyBy fedBy
+  unfolding figureReply figureMemory applied
   gets i k range =
       let P = asked-get k 0 range in
       let E = get-ends (O .nodes) (O .book) P bound (omega arith) i 0 in
@@ -59,7 +61,7 @@ module _ {K W : ℕ} {m : Memory} {b : Map} (O : Ordered K W m b) (bound : ℕ) 
       O .unlocked l _ (omega arith) (f .spot .used)
 
   puts : (i k v t draw : ℕ) → (1 ≤ k) × (k < MAX) → Does K W bound m b (putting i k v t draw)
-  unfolding figureReply figureMemory put
+  unfolding figureReply figureMemory put callFor
   puts i k v t draw range =
       let P = asked-put k v t draw 0 range in
       let o = put alone i bound m k v t draw in
@@ -69,10 +71,11 @@ module _ {K W : ℕ} {m : Memory} {b : Map} (O : Ordered K W m b) (bound : ℕ) 
       let locks = put-locks (O .nodes) (O .book) P bound room i 0 free in
       let plays : putIn K W b k (ownVersion (put-call k v t draw 0)) ≡ answered (done .map) (o .answer) =
       rw (O .K-is, O .W-is) at (done .put refl) in
+      let made = put-applied K W b (done .map) (Requests.put k v t draw) 0 (o .answer) refl plays in
       record {
-        replies = sym (put-reply K W b (done .map) (putOperation k v t) (o .answer) refl plays);
+        replies = sym (ap (λ (z : Applied). z .reply) made);
         leaves = subst (λ (z : Map). Ordered K W (o .memory) z)
-            (put-fed K W b (done .map) (putOperation k v t) (o .answer) refl plays) (record {
+            (sym (ap (λ (z : Applied). z .map) made)) (record {
               ghost = done .ghost;
               nodes = done .nodes;
               book = done .book;
@@ -96,7 +99,7 @@ all-does bound enough [] O lawful = refl
 all-does {K} {W} bound enough (r ∷ rs) {m} {b} O lawful =
     let D = does O bound (omega (arith, O .nodes .room, O .K-is)) r (lawful .0) in
     ap (λ (z : Reply). z ∷ figureAll bound (figureMemory bound m r) rs) (D .replies)
-    ∙ ap (λ (zs : List Reply). replyOf K W b (operationOf r) ∷ zs) (all-does bound enough rs (D .leaves) (lawful .1))
+    ∙ ap (λ (zs : List Reply). applied K W b (operationOf r) .reply ∷ zs) (all-does bound enough rs (D .leaves) (lawful .1))
 
 -- ---- from new
 
@@ -109,7 +112,7 @@ no-effects K W b (x ∷ es) e q = absurd (omega arith)
 pub opened-ordered : (nodes versions : List ℕ) (processes limit : ℕ)
     → openOf nodes versions processes limit .result .outcome ≡ Opening.Opened
     → Ordered (capacity nodeWords (length nodes)) (capacity versionWords (length versions))
-    (memoryIn (begin (openOf nodes versions processes limit) processes limit .store)) []
+    (memoryIn (freshStore (openOf nodes versions processes limit))) []
 opened-ordered nodes versions processes limit opened = record {
   ghost = l .g;
   nodes = l .core .nodes;
@@ -121,7 +124,7 @@ opened-ordered nodes versions processes limit opened = record {
 }
   where
     w : Store
-    w = begin (openOf nodes versions processes limit) processes limit .store
+    w = freshStore (openOf nodes versions processes limit)
 
     K : ℕ
     K = capacity nodeWords (length nodes)
@@ -129,7 +132,7 @@ opened-ordered nodes versions processes limit opened = record {
     W : ℕ
     W = capacity versionWords (length versions)
 
-    l : Live K W w (emptyHistory processes limit)
+    l : Live K W w (emptySeen processes limit)
     l = opened-live nodes versions processes limit opened
 
     -- every process is idle, so no lock names one
@@ -137,7 +140,7 @@ opened-ordered nodes versions processes limit opened = record {
     free x n x5 hn zero e = e
     free x n x5 hn (suc j) e =
         absurd (l .core .locks j x n (omega arith) hn e .kind
-        (ap (λ (c : Invoked). c .operation .kind) (sym (l .hist .track j .same))))
+        (ap (λ (c : Call). c .kind) (l .hist .track j .same)))
 
 pub figure-implements : FigureImplements
 figure-implements n v lawful-n lawful-v started above unmade bound enough rs lawful =

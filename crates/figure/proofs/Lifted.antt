@@ -15,7 +15,7 @@ use Rattle.model.specs.Layout.{Memory, limits}
 use Rattle.model.specs.State.{noProcess, isIdle}
 use Rattle.model.specs.Phases.{Moved, moved, lawfulAt, lawfulProcess, turnOf}
 use Rattle.model.specs.Calls.{Store, Stepped, stepPermit, processAfter, outcomeOf, tallyAfter, stepBy, stepOf}
-use Rattle.model.specs.History.{History, sawStep}
+use Rattle.model.proofs.Seen.{Seen, sawStep}
 use Rattle.model.proofs.Tests.{is-true, if-no, eq→eqb}
 use Rattle.model.proofs.Live.{memory, slot, Live, core-lawful}
 use Rattle.model.proofs.Stepped.{step-live}
@@ -72,7 +72,7 @@ later w i n x = record {
 abbrev pub place-in : Store → ℕ → Place
 place-in w i = at-place (slot w i) (memory w)
 
-module _ {K W : ℕ} {w : Store} {h : History} (l : Live K W w h) (i : ℕ) (below : i < w .state .processes)
+module _ {K W : ℕ} {w : Store} {h : Seen} (l : Live K W w h) (i : ℕ) (below : i < w .state .processes)
     (time : w .state .events < w .state .limit) where
   abbrev tick : ℕ
   tick = w .state .events + 1
@@ -143,7 +143,7 @@ later-none : (w : Store) (i : ℕ) → later w i 0 (place-in w i) ≡ w
 later-none w i = rw (set-getD (w .state .process) i noProcess, add-zero (w .state .events))
 
 -- there process i stands where it was put
-pub placed : {K W : ℕ} {w : Store} {h : History} → Live K W w h → (i : ℕ) → i < w .state .processes → (n : ℕ) (y : Place)
+pub placed : {K W : ℕ} {w : Store} {h : Seen} → Live K W w h → (i : ℕ) → i < w .state .processes → (n : ℕ) (y : Place)
     → place-in (later w i n y) i ≡ y
 placed {w = w} l i below n y = ap (λ (p : Process). at-place p (y .memory))
     (getD-set-same (w .state .process) i (y .process) noProcess (omega (arith, l .core .array, l .core .processes)))
@@ -151,10 +151,10 @@ placed {w = w} l i below n y = ap (λ (p : Process). at-place p (y .memory))
 -- the store after n steps, and that it is one of demand 3
 pub record Turns (K W : ℕ) (w : Store) (i n : ℕ) (y : Place) : Type 0 where
   pub turns : turned w i n ≡ record { outcomes = moves (w .state .events + 1) n; store = later w i n y }
-  pub history : History
+  pub history : Seen
   pub live : Live K W (later w i n y) history
 
-pub lift : {K W : ℕ} (i n : ℕ) {w : Store} {h : History} → Live K W w h → i < w .state .processes
+pub lift : {K W : ℕ} (i n : ℕ) {w : Store} {h : Seen} → Live K W w h → i < w .state .processes
     → w .state .events + n ≤ w .state .limit → (y : Place) → Goes i (w .state .events + 1) n (place-in w i) y → Turns K W w i n y
 unfolding turned moves
 lift {K} {W} i zero {w} {h} l below time y go = subst (λ z. Turns K W w i 0 z) go (record {

@@ -10,14 +10,18 @@ use Rattle.model.specs.Layout.{Memory, nodeWords, versionWords, capacity}
 use Rattle.model.specs.Map.{Reply}
 use Rattle.model.specs.State.{idleProcess, noProcess, lawfulKey, isIdle}
 use Rattle.model.specs.Phases.{maxNodes}
-use Rattle.model.specs.Calls.{openOf, startPermit, startBy, startPutOf, startGetOf, topOf, Store, stepOf, standing}
-use Rattle.model.specs.History.{Action, startPut, startGet, step, look, Invoked, emptyHistory, Run, perform, performAll, withState, begin}
+use Rattle.model.specs.Calls.{openOf, startPermit, startBy, startOf, topOf, Store, standing}
+use Rattle.model.specs.Requests as Requests
+use Rattle.model.specs.History.{Action, start, step, act, Run, perform, performAll, begin}
+use Rattle.model.proofs.Seen.{emptySeen}
+use Rattle.model.specs.ByValue.{opensBy, freshStore, byValue}
+use Rattle.model.specs.Requests.{Operation, keyOf}
 use Rattle.model.specs.Linearizability.{All}
 use Rattle.model.proofs.Tests.{by-eq}
 use Rattle.model.proofs.Laws.{top-at-most}
 use Rattle.model.proofs.Opened.{opened-live}
 use Rattle.model.proofs.Live.{slot, Live, core-lawful, status-is}
-use Rattle.figure.specs.Types.{Idle, Answer, Process, Finish, Starting, Stepping, Granted}
+use Rattle.figure.specs.Types.{Idle, Answer, Call, Process, Finish, Opening, Starting, Stepping, Granted}
 use Rattle.figure.specs.Figure.{get, alone, put}
 use Rattle.figure.specs.Steps.{stepsOf}
 use Rattle.figure.specs.Alone.{Turned, turned, moves, Reached, memoryIn, rested, Resting}
@@ -31,41 +35,24 @@ use Rattle.figure.proofs.Implements.{all-does, opened-ordered}
 
 -- ---- the stores of demand 3 go on
 
--- the store after one action more
-unfoldable acted : Store → Action → Store
-acted w (startPut i k v t draw) = withState w (startPutOf (w .state) (w .nodes) (w .versions) i k v t draw .state)
-acted w (startGet i k) = withState w (startGetOf (w .state) (w .nodes) (w .versions) i k .state)
-acted w (step i) = stepOf w i .store
-acted w (look k back) = w
-
-acts : (r : Run) (a : Action) → perform r a .store ≡ acted (r .store) a
-unfolding perform acted
-acts r (startPut i k v t draw) = refl
-acts r (startGet i k) = refl
-acts r (step i) = refl
-acts r (look k back) = refl
-
-all-more : (r : Run) (actions : List Action) (a : Action) → performAll r (actions ++ (a ∷ [])) ≡ perform (performAll r actions) a
+all-more : (r : Run byValue) (actions : List Action) (a : Action) → performAll r (actions ++ (a ∷ [])) ≡ perform (performAll r actions) a
 unfolding performAll
 all-more r [] a = refl
 all-more r (b ∷ actions) a = all-more (perform r b) actions a
 
-reached-on : {w : Store} → Reached w → (a : Action) → Reached (acted w a)
+reached-on : {w : Store} → Reached w → (a : Action) → Reached (act byValue w a .store)
 reached-on {w} r a =
-    let run = begin (openOf (r .nodes) (r .versions) (r .processes) (r .limit)) (r .processes) (r .limit) in
     record {
-      nodes = r .nodes;
-      versions = r .versions;
-      processes = r .processes;
-      limit = r .limit;
-      opened = r .opened;
+      given = r .given;
+      fresh = r .fresh;
+      opens = r .opens;
       actions = r .actions ++ (a ∷ []);
-      left = ap (λ (z : Run). z .store) (all-more run (r .actions) a) ∙ acts (performAll run (r .actions)) a
-          ∙ ap (λ (z : Store). acted z a) (r .left);
+      left = ap (λ (z : Run byValue). z .store) (all-more (begin byValue (r .given) (r .fresh)) (r .actions) a)
+          ∙ (unfold perform in (ap (λ (z : Store). act byValue z a .store) (r .left)));
     }
 
 reached-turned : (i n : ℕ) {w : Store} → Reached w → Reached (turned w i n .store)
-unfolding turned acted
+unfolding turned
 reached-turned i zero r = r
 reached-turned i (suc n) r = reached-turned i n (reached-on r (step i))
 
@@ -84,14 +71,9 @@ module _ (w : Store) (lives : Lives w) (i k : ℕ) (below : i < w .state .proces
     not-le (w .state .limit) (w .state .events) time,
   )
 
-  starts-put : (v t draw : ℕ)
-      → startPutOf (w .state) (w .nodes) (w .versions) i k v t draw .outcome ≡ Starting.Started (w .state .events + 1)
-  unfolding startPutOf startBy
-  starts-put v t draw = rw may-start
-
-  starts-get : startGetOf (w .state) (w .nodes) (w .versions) i k .outcome ≡ Starting.Started (w .state .events + 1)
-  unfolding startGetOf startBy
-  starts-get = rw may-start
+  starts : (op : Operation) → keyOf op ≡ k → startOf (w .state) (w .nodes) (w .versions) i op .outcome ≡ Starting.Started (w .state .events + 1)
+  unfolding startOf startBy
+  starts op e = rw (e, may-start)
 
 -- ---- what one call tells
 
@@ -118,31 +100,31 @@ module _ (w : Store) (reached : Reached w) (rest : Resting w) (bound : ℕ) (eno
   Time r = w .state .events + suc (figureSteps bound (memoryIn w) r) ≤ w .state .limit
 
   called-get : (i k : ℕ) → Lawful (getting i k) → i < w .state .processes → Time (getting i k) → Called bound w (getting i k)
-  unfolding storeDoes figureReply figureMemory figureSteps acted
+  unfolding storeDoes figureReply figureMemory figureSteps
   called-get i k lawful below time =
       let m = memoryIn w in
       let r = get bound m k in
       let n = stepsOf bound m k (r .answer) 0 in
       let q = get-alone w reached bound enough i k (w .state .events + 1)
-      (starts-get w lives i k below lawful (resting-idle lives rest i) (omega arith)) (omega arith) in
+      (starts w lives i k below lawful (resting-idle lives rest i) (omega arith) (Requests.get k) refl) (omega arith) in
       record {
-        reached = reached-turned i n (reached-on reached (startGet i k));
+        reached = reached-turned i n (reached-on reached (start i (Requests.get k)));
         tells = ap (λ (x : Turned). told (x .outcomes)) q ∙ told-end (w .state .events + 1 + 1) (n - 1) _;
         left-is = ap (λ (x : Turned). x .store) q;
       }
 
   called-put : (i k v t draw : ℕ) → Lawful (putting i k v t draw) → i < w .state .processes → Time (putting i k v t draw)
       → Called bound w (putting i k v t draw)
-  unfolding storeDoes figureReply figureMemory figureSteps acted
+  unfolding storeDoes figureReply figureMemory figureSteps
   called-put i k v t draw lawful below time =
       let m = memoryIn w in
       let o = put alone i bound m k v t draw in
       let n = stepsOf bound m k (o .answer) (topOf draw) in
       let free = unlocked-frees w reached (rest-unlocks w reached rest) bound enough k (topOf draw) (o .answer) lawful (top-at-most draw) in
       let q = put-alone w reached bound enough i k v t draw (w .state .events + 1) free
-      (starts-put w lives i k below lawful (resting-idle lives rest i) (omega arith) v t draw) (omega arith) in
+      (starts w lives i k below lawful (resting-idle lives rest i) (omega arith) (Requests.put k v t draw) refl) (omega arith) in
       record {
-        reached = reached-turned i n (reached-on reached (startPut i k v t draw));
+        reached = reached-turned i n (reached-on reached (start i (Requests.put k v t draw)));
         tells = ap (λ (x : Turned). told (x .outcomes)) q ∙ told-end (w .state .events + 1 + 1) (n - 1) _;
         left-is = ap (λ (x : Turned). x .store) q;
       }
@@ -208,25 +190,23 @@ store-implements nodes versions processes limit opened bound enough rs all time 
     ∙ all-does bound enough rs O (lawful rs all)
   where
     w : Store
-    w = begin (openOf nodes versions processes limit) processes limit .store
+    w = freshStore (openOf nodes versions processes limit)
 
-    l : Live (capacity nodeWords (length nodes)) (capacity versionWords (length versions)) w (emptyHistory processes limit)
+    l : Live (capacity nodeWords (length nodes)) (capacity versionWords (length versions)) w (emptySeen processes limit)
     l = opened-live nodes versions processes limit opened
 
     fresh : Reached w
     fresh = record {
-      nodes = nodes;
-      versions = versions;
-      processes = processes;
-      limit = limit;
-      opened = opened;
+      given = record { nodes = nodes; versions = versions; processes = processes; limit = limit };
+      fresh = w;
+      opens = ap (λ (o : Opening). opensBy o w) opened;
       actions = [];
       left = unfold performAll in refl;
     }
 
     rest : Resting w
     rest j lt = status-is (l .core) j lt
-        ∙ ap (λ kind. standing kind (slot w j)) (ap (λ (c : Invoked). c .operation .kind) (sym (l .hist .track j .same)))
+        ∙ ap (λ kind. standing kind (slot w j)) (ap (λ (c : Call). c .kind) (l .hist .track j .same))
         ∙ (unfold standing in refl)
 
     lawful : (rs : List Request) → All (λ r. Lawful r × (processOf r < processes)) rs → All Lawful rs

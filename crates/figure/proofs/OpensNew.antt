@@ -7,7 +7,7 @@ use lib.ListN.{length, getD, set, replicate}
 use lib.Seq.{sets, set-getD, getD-set-other}
 use Rattle.model.specs.Layout.{withWord, freshNodes, nodeRecord}
 use Rattle.model.specs.Calls.{openPermit, openBy, openOf}
-use Rattle.model.specs.History.{begin}
+use Rattle.model.specs.ByValue.{freshStore}
 use Rattle.model.proofs.Words.{filled}
 use Rattle.figure.specs.Types.{Permit, Granted, Denied, Refusal, Opening}
 use Rattle.figure.specs.Figure.{HMAX, AllocN, refNode, initLocks, new}
@@ -81,7 +81,7 @@ unfolding openOf
 opens-new nodes versions processes limit opened bound lt unmade = go (openPermit nodes versions processes limit) opened
   where
     go : (p : Permit) → openBy p nodes versions processes limit .result .outcome ≡ Opening.Opened
-        → memoryIn (begin (openBy p nodes versions processes limit) processes limit .store)
+        → memoryIn (freshStore (openBy p nodes versions processes limit))
         ≡ new bound (length nodes) (length versions) unmade
     go (Denied r) e = absurd (unfold openBy in (refused≢opened r e))
       where

@@ -4,8 +4,10 @@ use Prim.Native.Nat.{_+_}
 use mathlib.Core.Path.{refl, subst}
 use native.Mathlib.Omega.{arith}
 use Rattle.model.specs.Phases.{ownVersion}
-use Rattle.model.specs.Calls.{startPermit, startPutOf, topOf}
-use Rattle.model.specs.History.{startPut, withState, perform}
+use Rattle.model.specs.Calls.{startPermit, callFor, startOf, topOf}
+use Rattle.model.specs.Requests as Requests
+use Rattle.model.specs.History as History
+use Rattle.model.specs.ByValue.{withState}
 use Rattle.figure.specs.Types.{State}
 use Rattle.figure.specs.Figure.{alone, put}
 use Rattle.figure.specs.Steps.{searchSteps, stepsOf}
@@ -15,7 +17,7 @@ use Rattle.figure.proofs.Putting.{put-ends}
 use Rattle.figure.proofs.Called.{accepted, finishes, Lives, reached-lives, acted-lives}
 
 pub put-alone : PutAlone
-unfolding startPutOf perform put
+unfolding startOf callFor put
 put-alone w reached bound enough i k v t draw start free o time =
     let m = memoryIn w in
     let now = w .state .events + 1 in
@@ -24,7 +26,7 @@ put-alone w reached bound enough i k v t draw start free o time =
     let n = stepsOf bound m k (r .answer) (topOf draw) in
     let a = accepted w i start call (startPermit (w .state) (w .nodes) (w .versions) i k) refl o in
     let l = reached-lives reached in
-    let l₁ = subst (λ (s : State). Lives (withState w s)) (a .state-is) (acted-lives l (startPut i k v t draw)) in
+    let l₁ = subst (λ (s : State). Lives (withState w s)) (a .state-is) (acted-lives l (History.start i (Requests.put k v t draw))) in
     let e = put-ends (l .live .core .nodes) (l .live .core .book) (asked-put k v t draw now (a .range)) bound enough i now free in
     rw (a .state-is, a .start-is)
     (finishes w i call (l₁ .live) (a .below) refl n (r .memory) (r .answer) (ownVersion call)

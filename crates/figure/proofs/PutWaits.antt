@@ -8,8 +8,11 @@ use lib.Seq.{set-getD}
 use Rattle.model.specs.Layout.{Memory}
 use Rattle.model.specs.State.{noProcess, withEvent}
 use Rattle.model.specs.Phases.{moved}
-use Rattle.model.specs.Calls.{begun, startPermit, startPutOf, topOf, Store, Stepped, processAfter, outcomeOf, tallyAfter, stepBy, stepOf}
-use Rattle.model.specs.History.{History, startPut, withState, perform, sawStep}
+use Rattle.model.specs.Calls.{begun, startPermit, callFor, startOf, topOf, Store, Stepped, processAfter, outcomeOf, tallyAfter, stepBy, stepOf}
+use Rattle.model.specs.Requests as Requests
+use Rattle.model.specs.History as History
+use Rattle.model.proofs.Seen.{Seen, sawStep}
+use Rattle.model.specs.ByValue.{withState}
 use Rattle.model.proofs.Live.{memory, Live}
 use Rattle.model.proofs.Stepped.{step-live}
 use Rattle.figure.specs.Types.{Call, State, Wait, Stepping}
@@ -22,7 +25,7 @@ use Rattle.figure.proofs.Putting.{put-waits}
 use Rattle.figure.proofs.Lifted.{then, later, place-in, step-is, placed, lift}
 use Rattle.figure.proofs.Called.{accepted, Lives, reached-lives, acted-lives, here}
 
-wait-step : {K W : ℕ} {w : Store} {h : History} → Live K W w h → (i : ℕ) → i < w .state .processes
+wait-step : {K W : ℕ} {w : Store} {h : Seen} → Live K W w h → (i : ℕ) → i < w .state .processes
     → w .state .events < w .state .limit
     → stepped i (w .state .events + 1) (place-in w i) ≡ moved (memory w) Wait
     → stepOf w i ≡ record { outcome = Stepping.Waited (w .state .events + 1); store = waited w 1 }
@@ -34,7 +37,7 @@ wait-step {w = w} l i below time e =
 waited-on : (w : Store) (a b : ℕ) → waited (waited w a) b ≡ waited w (a + b)
 waited-on w a b = rw (add-assoc (w .state .events) a b)
 
-stays : {K W : ℕ} (i n : ℕ) {w : Store} {h : History} → Live K W w h → i < w .state .processes
+stays : {K W : ℕ} (i n : ℕ) {w : Store} {h : Seen} → Live K W w h → i < w .state .processes
     → w .state .events + n ≤ w .state .limit
     → ((tick : ℕ) → stepped i tick (place-in w i) ≡ moved (memory w) Wait)
     → turned w i n ≡ record { outcomes = waits (w .state .events + 1) n; store = waited w n }
@@ -57,7 +60,7 @@ stays {K} {W} i (suc n) {w} {h} l below time still =
 
 -- ---- the put
 
-module _ {K W : ℕ} (w : Store) (i : ℕ) (call : Call) {h : History}
+module _ {K W : ℕ} (w : Store) (i : ℕ) (call : Call) {h : Seen}
     (l : Live K W (withState w (withEvent (w .state) i (w .state .counts) (begun call))) h) (below : i < w .state .processes)
     (start-is : call .start ≡ w .state .events + 1) where
   abbrev w₁ : Store
@@ -83,7 +86,7 @@ module _ {K W : ℕ} (w : Store) (i : ℕ) (call : Call) {h : History}
       }
 
 pub put-waits-alone : PutWaits
-unfolding startPutOf perform put
+unfolding startOf callFor put
 put-waits-alone w reached bound enough i k v t draw l begun-at le free taken new o time =
     let m = memoryIn w in
     let now = w .state .events + 1 in
@@ -91,7 +94,7 @@ put-waits-alone w reached bound enough i k v t draw l begun-at le free taken new
     let a = accepted w i begun-at call (startPermit (w .state) (w .nodes) (w .versions) i k) refl o in
     let lives = reached-lives reached in
     let c = lives .live .core in
-    let l₁ = subst (λ (s : State). Lives (withState w s)) (a .state-is) (acted-lives lives (startPut i k v t draw)) in
+    let l₁ = subst (λ (s : State). Lives (withState w s)) (a .state-is) (acted-lives lives (History.start i (Requests.put k v t draw))) in
     let n = searchSteps bound m k + 1 + 5 * l in
     let e = put-waits (c .nodes) (c .book) (asked-put k v t draw now (a .range)) bound enough i now l le free taken new in
     rw (a .state-is, a .start-is)

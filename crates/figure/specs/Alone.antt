@@ -8,8 +8,11 @@ use mathlib.Core.Path.{_≡_}
 use lib.ListN.{length, set}
 use Rattle.model.specs.Layout.{Memory, lock}
 use Rattle.model.specs.State.{idleProcess, memoryOf, lawfulKey}
-use Rattle.model.specs.Calls.{openOf, startPutOf, startGetOf, topOf, Store, stepOf, counted, statusOf}
-use Rattle.model.specs.History.{Action, withState, performAll, begin}
+use Rattle.model.specs.Calls.{openOf, startOf, topOf, Store, stepOf, counted, statusOf}
+use Rattle.model.specs.Requests as Requests
+use Rattle.model.specs.System.{opened}
+use Rattle.model.specs.History.{Action, performAll, begin}
+use Rattle.model.specs.ByValue.{withState, Given, freshStore, byValue}
 use Rattle.figure.specs.Types.{Put, Get, Answer, New, Opening, Starting, Stepping, Status}
 use Rattle.figure.specs.Figure.{HMAX, head, new, findAll, get, alone, insertAll, put}
 use Rattle.figure.specs.Steps.{searchSteps, stepsOf}
@@ -38,13 +41,11 @@ moves tick (suc n) = Stepping.Moved tick ∷ moves (tick + 1) n
 
 -- a store that a list of demand 3 leaves
 pub record Reached (w : Store) : Type 0 where
-  pub nodes : List ℕ
-  pub versions : List ℕ
-  pub processes : ℕ
-  pub limit : ℕ
-  pub opened : openOf nodes versions processes limit .result .outcome ≡ Opening.Opened
+  pub given : Given
+  pub fresh : Store
+  pub opens : byValue .fresh given ≡ opened fresh
   pub actions : List Action
-  pub left : performAll (begin (openOf nodes versions processes limit) processes limit) actions .store ≡ w
+  pub left : performAll (begin byValue given fresh) actions .store ≡ w
 
 abbrev pub memoryIn : Store → Memory
 memoryIn w = memoryOf (w .state) (w .nodes) (w .versions)
@@ -72,7 +73,7 @@ rested w i n m a = record {
 -- wait. It answers what the figure's get answers on the tables, which are as they were.
 abbrev pub GetAlone : Type 0
 GetAlone = (w : Store) → Reached w → (bound : ℕ) → w .state .counts .nodes < bound → (i k start : ℕ)
-    → let begun = startGetOf (w .state) (w .nodes) (w .versions) i k in
+    → let begun = startOf (w .state) (w .nodes) (w .versions) i (Requests.get k) in
     let m = memoryIn w in
     let r = get bound m k in
     let n = stepsOf bound m k (r .answer) 0 in
@@ -102,7 +103,7 @@ Free bound m k h a = (l : ℕ) → l ≤ h → (l ≢ 0 → a ≡ New) → lock 
 -- after its search.
 abbrev pub PutAlone : Type 0
 PutAlone = (w : Store) → Reached w → (bound : ℕ) → w .state .counts .nodes < bound → (i k v t draw start : ℕ)
-    → let begun = startPutOf (w .state) (w .nodes) (w .versions) i k v t draw in
+    → let begun = startOf (w .state) (w .nodes) (w .versions) i (Requests.put k v t draw) in
     let m = memoryIn w in
     let o = put alone i bound m k v t draw in
     let n = stepsOf bound m k (o .answer) (topOf draw) in
@@ -182,7 +183,7 @@ leftBelow i bound m k v t h (suc l) = insertAll alone i bound m (findAll bound m
 -- Of the locks that a put needs, that of level l is the first that is held; it comes there if l is 0 or it makes a node.
 abbrev pub PutWaits : Type 0
 PutWaits = (w : Store) → Reached w → (bound : ℕ) → w .state .counts .nodes < bound → (i k v t draw l start : ℕ)
-    → let begun = startPutOf (w .state) (w .nodes) (w .versions) i k v t draw in
+    → let begun = startOf (w .state) (w .nodes) (w .versions) i (Requests.put k v t draw) in
     let m = memoryIn w in
     let h = topOf draw in
     let n = searchSteps bound m k + 1 + 5 * l in
@@ -200,5 +201,5 @@ abbrev pub OpensNew : Type 0
 OpensNew = (nodes versions : List ℕ) (processes limit : ℕ)
     → openOf nodes versions processes limit .result .outcome ≡ Opening.Opened
     → (bound : ℕ) → HMAX < bound → (unmade : ℕ)
-    → memoryIn (begin (openOf nodes versions processes limit) processes limit .store)
+    → memoryIn (freshStore (openOf nodes versions processes limit))
     ≡ new bound (length nodes) (length versions) unmade

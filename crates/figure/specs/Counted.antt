@@ -7,7 +7,7 @@ use mathlib.Core.Path.{_≡_}
 use Rattle.model.specs.Layout.{Memory}
 use Rattle.model.specs.State.{lawfulKey}
 use Rattle.model.specs.Calls.{openOf, topOf, Store}
-use Rattle.model.specs.History.{begin}
+use Rattle.model.specs.ByValue.{freshStore}
 use Rattle.figure.specs.Types.{New, None, Opening}
 use Rattle.figure.specs.Figure.{get, alone, put}
 use Rattle.figure.specs.Steps.{searchSteps, stepsOf, smaller}
@@ -38,7 +38,7 @@ abbrev pub EmptySteps : Type 0
 EmptySteps = (nodes versions : List ℕ) (processes limit : ℕ)
     → openOf nodes versions processes limit .result .outcome ≡ Opening.Opened
     → (bound k : ℕ) → 0 < bound → lawfulKey k ≡ true
-    → Empty bound (memoryIn (begin (openOf nodes versions processes limit) processes limit .store)) k
+    → Empty bound (memoryIn (freshStore (openOf nodes versions processes limit))) k
 
 -- Two bounds above the count of nodes in use give the same: the reply of a get, and the memory and the answer of a put.
 pub record Unseen (b c : ℕ) (m : Memory) (k : ℕ) : Type 0 where

@@ -6,13 +6,15 @@ use mathlib.Core.List.{List, [], _∷_, _++_}
 use mathlib.Core.Path.{_≡_}
 use lib.ListN.{length}
 use Rattle.model.specs.Layout.{Memory, nodeWords, versionWords, capacity}
-use Rattle.model.specs.Map.{Map, Reply}
+use Rattle.model.specs.Map.{Map, Reply, applied}
 use Rattle.model.specs.State.{lawfulNodes, lawfulVersions, lawfulKey}
 use Rattle.model.specs.Phases.{maxNodes}
-use Rattle.model.specs.Calls.{openOf, startPutOf, startGetOf, topOf, Store}
-use Rattle.model.specs.History.{Operation, putOperation, getOperation, withState, begin}
-use Rattle.model.specs.Linearizability.{fedBy, replyOf, All}
-use Rattle.figure.specs.Types.{Opening, StartResult, Stepping}
+use Rattle.model.specs.Calls.{openOf, startOf, topOf, Store}
+use Rattle.model.specs.Requests as Requests
+use Rattle.model.specs.Requests.{Operation, keyOf}
+use Rattle.model.specs.ByValue.{withState, freshStore}
+use Rattle.model.specs.Linearizability.{All}
+use Rattle.figure.specs.Types.{Opening, Stepping}
 use Rattle.figure.specs.Figure.{HMAX, new, get, alone, put}
 use Rattle.figure.specs.Steps.{stepsOf}
 use Rattle.figure.specs.Alone.{Turned, turned, Reached, memoryIn, Resting}
@@ -27,8 +29,8 @@ processOf (putting i k v t draw) = i
 processOf (getting i k) = i
 
 abbrev pub operationOf : Request → Operation
-operationOf (putting i k v t draw) = putOperation k v t
-operationOf (getting i k) = getOperation k
+operationOf (putting i k v t draw) = Requests.put k v t draw
+operationOf (getting i k) = Requests.get k
 
 -- ---- by the figure
 
@@ -63,18 +65,16 @@ figureEvents bound m (r ∷ rs) = suc (figureSteps bound m r) + figureEvents bou
 unfoldable pub ledgerAll : (K W : ℕ) → Map → List Request → List Reply
 ledgerAll K W b [] = []
 ledgerAll K W b (r ∷ rs) =
-    let op = operationOf r in
-    replyOf K W b op ∷ ledgerAll K W (fedBy (op .kind) K W b op) rs
+    let a = applied K W b (operationOf r) in
+    a .reply ∷ ledgerAll K W (a .map) rs
 
 -- ---- by the store
 
-abbrev pub startOf : Store → Request → StartResult
-startOf w (putting i k v t draw) = startPutOf (w .state) (w .nodes) (w .versions) i k v t draw
-startOf w (getting i k) = startGetOf (w .state) (w .nodes) (w .versions) i k
-
 -- started, then turned so many steps
 unfoldable pub storeDoes : (bound : ℕ) → Store → Request → Turned
-storeDoes bound w r = turned (withState w (startOf w r .state)) (processOf r) (figureSteps bound (memoryIn w) r)
+storeDoes bound w r =
+    let begun = startOf (w .state) (w .nodes) (w .versions) (processOf r) (operationOf r) in
+    turned (withState w (begun .state)) (processOf r) (figureSteps bound (memoryIn w) r)
 
 -- what finishing steps have told
 unfoldable pub told : List Stepping → List Reply
@@ -96,7 +96,7 @@ storeLeft bound w (r ∷ rs) = storeLeft bound (storeDoes bound w r .store) rs
 -- ---- the claims
 
 abbrev pub Lawful : Request → Type 0
-Lawful r = lawfulKey (operationOf r .key) ≡ true
+Lawful r = lawfulKey (keyOf (operationOf r)) ≡ true
 
 -- From a store of demand 3 without a running call: what is answered, and the tables that are left, are the figure's.
 abbrev pub StoreFolds : Type 0
@@ -119,7 +119,7 @@ FigureImplements = (nodes versions : ℕ) → lawfulNodes nodes ≡ true → law
 abbrev pub StoreImplements : Type 0
 StoreImplements = (nodes versions : List ℕ) (processes limit : ℕ)
     → openOf nodes versions processes limit .result .outcome ≡ Opening.Opened
-    → let w = begin (openOf nodes versions processes limit) processes limit .store in
+    → let w = freshStore (openOf nodes versions processes limit) in
     (bound : ℕ) → capacity nodeWords (length nodes) < bound → (rs : List Request)
     → All (λ r. Lawful r × (processOf r < processes)) rs → figureEvents bound (memoryIn w) rs ≤ limit
     → storeAll bound w rs ≡ ledgerAll (capacity nodeWords (length nodes)) (capacity versionWords (length versions)) [] rs

@@ -19,13 +19,23 @@ use Rattle.model.specs.State as State
 use Rattle.model.specs.State.{idleProcess, processAt}
 use Rattle.model.specs.Phases as Phases
 use Rattle.model.specs.Calls as Calls
-use Rattle.model.specs.Calls.{Opened, openOf, topOf, startPutOf, startGetOf, Store, stepOf, lookOf, statusOf}
+use Rattle.model.specs.Calls.{Opened, openOf, topOf, startOf, Store, stepOf, lookOf, statusOf}
 use Rattle.model.specs.Inspection as Inspection
 use Rattle.model.specs.Inspection.{inspectOf}
 use Rattle.model.specs.History as History
-use Rattle.model.specs.History.{Action, startPut, startGet, step, look, Run, performAll, emptyHistory}
+use Rattle.model.specs.Requests as Requests
+use Rattle.model.specs.History.{Action, step, look, Run, performAll, emptyHistory}
+use Rattle.model.specs.ByValue.{byValue}
 use Rattle.model.specs.Linearizability as Linearizability
-use Rattle.model.specs.Linearizability.{effectsOf, mapAt}
+use Rattle.model.specs.Linearizability.{effectsOf, mapAfter}
+use Rattle.model.proofs.Seen as Seen
+use Rattle.model.proofs.Seen.{faultsOf}
+
+abbrev pub startPut : (process key value timestamp draw : ℕ) → Action
+startPut i k v t draw = History.start i (Requests.put k v t draw)
+
+abbrev pub startGet : (process key : ℕ) → Action
+startGet i k = History.start i (Requests.get k)
 
 -- ---- a case
 
@@ -76,26 +86,25 @@ pub record Case : Type 0 where
 unfoldable pub open-bench : Bench → Opened
 open-bench b = openOf (replicate (b .nodes) 77) (replicate (b .versions) 77) (b .processes) (b .limit)
 
--- `begin` of History, with the bench's own tally
-unfoldable pub start : Bench → Opened → Run
+-- the store as its opening left it, with the bench's own tally
+unfoldable pub start : Bench → Opened → Run byValue
 start b o = record {
   store = record { state = o .result .state; nodes = o .nodes; versions = o .versions; tally = b .tally };
-  history = emptyHistory (b .processes) (b .limit);
+  history = emptyHistory (record { nodes = b .nodes; versions = b .versions; processes = b .processes; limit = b .limit });
 }
 
 unfoldable pub call-of : Store → Action → Said
-call-of w (startPut i k v t draw) = started (startPutOf (w .state) (w .nodes) (w .versions) i k v t draw .outcome)
-call-of w (startGet i k) = started (startGetOf (w .state) (w .nodes) (w .versions) i k .outcome)
+call-of w (History.start i op) = started (startOf (w .state) (w .nodes) (w .versions) i op .outcome)
 call-of w (step i) = stepped (stepOf w i .outcome)
 call-of w (look k back) = looked (lookOf (w .state) (w .nodes) (w .versions) k back)
 
 -- the plain ledger that demand 3 sets beside the run
-unfoldable pub ledger-of : Run → List Entry
+unfoldable pub ledger-of : Run byValue → List Entry
 ledger-of r = let w = r .store in let h = r .history in
-    mapAt (effectsOf (w .state) h) (length (h .log))
+    mapAfter (effectsOf (statusOf (w .state)) h) (History.eventsIn (h .entries))
     (capacity nodeWords (length (w .nodes))) (capacity versionWords (length (w .versions)))
 
-unfoldable pub answer-to : Question → Opened → Run → Said
+unfoldable pub answer-to : Question → Opened → Run byValue → Said
 answer-to (call a) o r = call-of (r .store) a
 answer-to opening o r = opened (o .result .outcome)
 answer-to (status i) o r = stands (statusOf (r .store .state) i)
@@ -106,7 +115,8 @@ answer-to (word-of x f) o r = words (word (r .store .nodes) x f ∷ [])
 answer-to (process i) o r = keeps (processAt (r .store .state) i)
 answer-to (top-of draw) o r = words (topOf draw ∷ [])
 answer-to observer o r = let h = r .history in
-    words (length (h .log) ∷ h .starts ∷ length (h .completed) ∷ length (h .queries) ∷ h .faults ∷ [])
+    let es = h .entries in
+    words (History.eventsIn es ∷ History.startsIn es ∷ length (History.completedIn es) ∷ length (History.queriesIn es) ∷ faultsOf (h .processes) (h .limit) es ∷ [])
 answer-to ledger o r = lists (ledger-of r)
 
 -- All that the calls go through is opened here, once: whoever unfolds `said` unfolds this line.
@@ -120,17 +130,17 @@ unfolding open-bench start call-of ledger-of answer-to
     Phases.addNode Phases.makeOf Phases.addLink Phases.linkOf Phases.isNew Phases.rise Phases.released Phases.freed
     Phases.releaseOf Phases.fromPut Phases.lawfulAt Phases.lawfulProcess
     Phases.phaseOf Phases.turnOf
-    Calls.openPermit Calls.openBy openOf trailingZeros topOf Calls.startPermit Calls.startBy startPutOf startGetOf
+    Calls.openDue Calls.openBy openOf trailingZeros topOf Calls.startPermit Calls.startBy Calls.callFor startOf
     Calls.stepPermit Calls.processAfter Calls.outcomeOf Calls.counted Calls.tallyAfter Calls.stepBy stepOf
     Calls.findFrom Calls.backFrom Calls.lookNode Calls.lookPermit Calls.lookBy lookOf
     Calls.standing Calls.statusPermit Calls.statusBy statusOf
     Inspection.chainFalls Inspection.chainAges Inspection.chainSound Inspection.versionsSound Inspection.reaching
     Inspection.levelFrom Inspection.levelsFrom Inspection.inspection Inspection.idleBelow Inspection.inspectPermit
     Inspection.inspectBy inspectOf
-    History.startDue History.stepDue History.invokedAt History.sawStart History.sawStep History.sawLook History.perform
-    performAll
-    Map.versionsOf Map.held Map.pushed Map.putBy Map.putIn Linearizability.fedBy Linearizability.completedEffects
-    Linearizability.shownEffect Linearizability.runningEffects effectsOf Linearizability.fedAt mapAt
+    History.pendingAt History.logOf History.pendingIn History.startsIn History.completedIn History.queriesIn History.due History.perform
+    performAll Seen.sawStart Seen.sawStep Seen.sawLook Seen.saw faultsOf
+    Map.versionsOf Map.held Map.pushed Map.putBy Map.putIn Map.getBy Map.getFrom Map.applied Linearizability.completedEffects
+    Linearizability.shownEffect Linearizability.runningEffects effectsOf Linearizability.fedAt mapAfter
 said c =
     let o = open-bench (c .bench) in
     let r = performAll (start (c .bench) o) (c .actions) in

@@ -9,10 +9,11 @@ use lib.ListN.{length, getD, take, length-append, List·getD-append, List·getD-
 use lib.Seq.{getD-at, take-at, take-append-le}
 use Rattle.model.specs.Types.{Looking, BadKey}
 use Rattle.model.specs.Choice.{if_then_else_}
-use Rattle.model.specs.Map.{Map, Reply, lookIn}
+use Rattle.model.specs.Requests.{kindOf}
+use Rattle.model.specs.Map.{Map, Reply, applied, lookIn}
 use Rattle.model.specs.State.{lawfulKey}
 use Rattle.model.specs.History.{Action, step, look, Invoked, Completed, Query}
-use Rattle.model.specs.Linearizability.{fedBy, replyOf, All}
+use Rattle.model.specs.Linearizability.{replyTold, All}
 use Rattle.model.proofs.Tests.{by-eq, by-le}
 
 -- what took effect at an event: nothing, or a process's call
@@ -22,7 +23,7 @@ pub data Took : Type 0 where
 
 unfoldable pub fed : (K W : ℕ) → Map → Took → Map
 fed K W b nothing = b
-fed K W b (took i c) = fedBy (c .operation .kind) K W b (c .operation)
+fed K W b (took i c) = applied K W b (c .operation) .map
 
 -- the map after a list of effects
 unfoldable pub played : (K W : ℕ) → Map → List Took → Map
@@ -37,6 +38,16 @@ played-snoc K W b (d ∷ es) e = played-snoc K W (fed K W b d) es e
 pub nothing≢took : {i : ℕ} {c : Invoked} → nothing ≡ took i c → ⊥
 nothing≢took {i} {c} e = let z : _≡_ {A = ℕ} 0 1 = cc in omega arith
 
+-- one list begins with the other
+abbrev pub Grows : List Took → List Took → Type 0
+Grows from eff = (length from ≤ length eff) × ((n : ℕ) → n < length from → getD eff n nothing ≡ getD from n nothing)
+
+pub grows-on : (from eff : List Took) (x : Took) → Grows from eff → Grows from (eff ++ (x ∷ []))
+grows-on from eff x g = (
+  omega (arith, g .0, length-append eff (x ∷ [])),
+  λ n lt. List·getD-append eff (x ∷ []) nothing n (omega (arith, g .0)) ∙ g .1 n lt,
+)
+
 pub all-map : {A : Type 0} {P Q : A → Type 0} → ((x : A) → P x → Q x) → (l : List A) → All P l → All Q l
 all-map f [] h = h
 all-map {P = P} {Q = Q} f (x ∷ xs) h = (f x (h .0), all-map {P = P} {Q = Q} f xs (h .1))
@@ -49,24 +60,21 @@ pub record Entered (K W : ℕ) (log : List Action) (eff : List Took) (i : ℕ) (
   pub after-start : c .start < tick
   pub own-step : getD log before (look 0 0) ≡ step i
   pub took-is : getD eff before nothing ≡ took i c
-  pub replies : replyOf K W (played K W [] (take before eff)) (c .operation) ≡ reply
-
-abbrev pub told-reply : Completed → Reply
-told-reply d = record { answer = d .told .answer; version = record { value = d .told .value; timestamp = d .told .timestamp } }
+  pub replies : applied K W (played K W [] (take before eff)) (c .operation) .reply ≡ reply
 
 -- a finished call
 pub record Settles (K W : ℕ) (log : List Action) (eff : List Took) (d : Completed) : Type 0 where
-  pub kind : d .told .kind ≡ d .invoked .operation .kind
+  pub kind : d .told .kind ≡ kindOf (d .invoked .operation)
   pub start : d .told .start ≡ d .invoked .start
   pub finish : d .told .finish ≡ d .ended
   pub ended : d .ended ≤ length log
   pub in-time : d .told .effect ≤ d .ended
-  pub entered : Entered K W log eff (d .process) (d .invoked) (d .told .effect) (told-reply d)
+  pub entered : Entered K W log eff (d .process) (d .invoked) (d .told .effect) (replyTold (d .told))
 
 -- a look
 abbrev pub LookedAt : (K W : ℕ) → List Took → Query → Type 0
-LookedAt K W eff q = (q .events ≤ length eff) × (q .outcome ≡
-    (if lawfulKey (q .key) then lookIn (played K W [] (take (q .events) eff)) (q .key) (q .back) else Looking.Refused BadKey))
+LookedAt K W eff q = (q .tick ≤ length eff) × (q .outcome ≡
+    (if lawfulKey (q .key) then lookIn (played K W [] (take (q .tick) eff)) (q .key) (q .back) else Looking.Refused BadKey))
 
 -- ---- one event more
 
@@ -81,7 +89,7 @@ module _ (K W : ℕ) (log : List Action) (eff : List Took) (a : Action) (x : Too
     own-step = List·getD-append log (a ∷ []) (look 0 0) (e .before) (omega (arith, e .within)) ∙ e .own-step;
     took-is = List·getD-append eff (x ∷ []) nothing (e .before) (e .within) ∙ e .took-is;
     replies =
-        ap (λ l. replyOf K W (played K W [] l) (c .operation)) (take-append-le (e .before) eff (x ∷ []) (omega (arith, e .within))) ∙ e .replies;
+        ap (λ l. applied K W (played K W [] l) (c .operation) .reply) (take-append-le (e .before) eff (x ∷ []) (omega (arith, e .within))) ∙ e .replies;
   }
 
   pub settles-grow : (d : Completed) → Settles K W log eff d → Settles K W (log ++ (a ∷ [])) (eff ++ (x ∷ [])) d
@@ -95,11 +103,11 @@ module _ (K W : ℕ) (log : List Action) (eff : List Took) (a : Action) (x : Too
   }
 
   pub looked-grow : (q : Query) → LookedAt K W eff q → LookedAt K W (eff ++ (x ∷ [])) q
-  looked-grow q h = (omega (arith, h .0, length-append eff (x ∷ [])), rw (take-append-le (q .events) eff (x ∷ []) (h .0)) (h .1))
+  looked-grow q h = (omega (arith, h .0, length-append eff (x ∷ [])), rw (take-append-le (q .tick) eff (x ∷ []) (h .0)) (h .1))
 
   -- the effect of this very event
   pub entered-now : (i : ℕ) (c : Invoked) (r : Reply) → a ≡ step i → x ≡ took i c → c .start ≤ length log
-      → replyOf K W (played K W [] eff) (c .operation) ≡ r
+      → applied K W (played K W [] eff) (c .operation) .reply ≡ r
       → Entered K W (log ++ (a ∷ [])) (eff ++ (x ∷ [])) i c (suc (length log)) r
   entered-now i c r ea ex st h = record {
     before = length log;
@@ -108,7 +116,7 @@ module _ (K W : ℕ) (log : List Action) (eff : List Took) (a : Action) (x : Too
     after-start = omega arith;
     own-step = getD-at log a [] (look 0 0) (length log) refl ∙ ea;
     took-is = getD-at eff x [] nothing (length log) even ∙ ex;
-    replies = ap (λ l. replyOf K W (played K W [] l) (c .operation)) (take-at eff (x ∷ []) (length log) even) ∙ h;
+    replies = ap (λ l. applied K W (played K W [] l) (c .operation) .reply) (take-at eff (x ∷ []) (length log) even) ∙ h;
   }
 
   -- an effect in the longer list is an old one or this event's

@@ -1,16 +1,15 @@
 -- What the definitions say on every state, tables and tally: their numbers, that a refusal changes nothing, that an
 -- event is one tick, that a wait is only that, and that a look ends.
-use Prim.Native.Nat.{ℕ, zero, suc, _+_, _≤_, _<_}
-use mathlib.Core.Bool.{Bool, true, false, not, _&&_, and-eq-true-iff}
+use Prim.Native.Nat.{ℕ, zero, suc, _+_, _*_, _-_, _/_, _%_, _≤_, _<_}
+use mathlib.Core.Bool.{Bool, true, false, not, and-eq-true-iff}
 use mathlib.Core.List.{List, [], _∷_, map}
-use mathlib.Core.Logic.{_↔_}
+use mathlib.Core.Logic.{_≢_, _↔_}
 use mathlib.Core.Path.{_≡_, refl, sym, ap, _∙_}
-use native.Mathlib.Nat.{le-trans}
 use native.Mathlib.Omega.{arith}
-use borrow.Author.Tests.{leb-true, leb-false, ltb-true, eqb-true, eqb-false, not-false}
+use borrow.Author.Tests.{leb-true, leb-false, ltb-true, eqb-false, not-false}
 use lib.Count.{trailingZeros}
 use lib.Dec.{leb, ltb, eqb, lit<}
-use lib.ListN.{length, getD}
+use lib.ListN.{length}
 use lib.Seq.{set-getD}
 use Rattle.model.specs.Types.{Answer, TooOld, VersionsFull, Added, KeysFull, New, Found, None}
 use Rattle.model.specs.Types.{Refusal, NodeLength, VersionLength, ProcessCount, EventLimit, NoProcess, BadKey}
@@ -22,16 +21,16 @@ use Rattle.model.specs.Types.{Permit, Granted, Denied, Call, Cursor, Eff
 use Rattle.model.specs.Types.{Opening, Starting, Stepping, Looking}
 use Rattle.model.specs.Choice.{if_then_else_}
 use Rattle.model.specs.Layout.{limits, topLevel, levels, Memory, newest, prev}
-use Rattle.model.specs.Numbers.{numberOf, placeOf}
-use Rattle.model.specs.State.{closedState, memoryOf, within, lawfulNodes, lawfulVersions}
+use Rattle.model.specs.Numbers.{numberOf, placeOf, refusals, refusalOf, answers, answerOf}
+use Rattle.model.specs.Requests.{Fitting, Operation, keyOf}
+use Rattle.model.specs.State.{closedState, memoryOf, within, lawfulLength, lawfulNodes, lawfulVersions, lawfulKey}
+use Rattle.model.proofs.Tests.{leb-iff, eqb-iff}
 use Rattle.model.specs.Phases.{Moved, moved, usedVersion, lockOf, checkBy, checkOf, updateNode, updateAt}
 use Rattle.model.specs.Phases.{updateOf, makeOf, linkOf, rise, released, freed, releaseOf, phaseOf, turnOf}
-use Rattle.model.specs.Calls.{denyIf, openPermit, Opened, openBy, openOf, topOf}
-use Rattle.model.specs.Calls.{startPermit, startBy, startPutOf, startGetOf}
+use Rattle.model.specs.Calls.{denyIf, openDue, openPermit, Opened, openBy, openOf, topOf}
+use Rattle.model.specs.Calls.{startPermit, startBy, startOf}
 use Rattle.model.specs.Calls.{Store, stepPermit, processAfter, outcomeOf, tallyAfter, stepBy, stepOf}
 use Rattle.model.specs.Calls.{backFrom, lookNode, lookPermit, lookBy, lookOf}
-use Rattle.model.specs.History.{Action, startPut, startGet, step, look, Operation, History, startDue, stepDue}
-use Rattle.model.specs.History.{isGranted, isDenied, unless, sawStart, sawStep, sawLook, Run, perform, performAll}
 
 -- ---- numbers
 
@@ -42,26 +41,17 @@ pub constants :
     ≡ 16 ∷ 3 ∷ 5 ∷ 1_023 ∷ 4_095 ∷ 8 ∷ 1_000_000_000 ∷ 18_446_744_073_709_551_614 ∷ 7 ∷ 4_294_967_295 ∷ 6 ∷ []
 constants = refl
 
--- document 01's refusals and answers, in its order
-abbrev pub refusals : List Refusal
-refusals =
-    NodeLength ∷ VersionLength ∷ ProcessCount ∷ EventLimit ∷ NoProcess ∷ BadKey ∷ Busy ∷ NoCall ∷ Spent ∷ Corrupt
-    ∷ Damaged ∷ NoKey ∷ NoVersion ∷ NotOpen ∷ UnknownCommand ∷ CutShort ∷ []
-
-abbrev pub all-answers : List Answer
-all-answers = TooOld ∷ VersionsFull ∷ Added ∷ KeysFull ∷ New ∷ Found ∷ None ∷ []
-
 -- the refusals are numbered 1 to 16 in order, the answers' counts stand at 0 to 6
 pub numbers : map numberOf refusals ≡ 1 ∷ 2 ∷ 3 ∷ 4 ∷ 5 ∷ 6 ∷ 7 ∷ 8 ∷ 9 ∷ 10 ∷ 11 ∷ 12 ∷ 13 ∷ 14 ∷ 15 ∷ 16 ∷ []
 unfolding numberOf
 numbers = refl
 
-pub places : map placeOf all-answers ≡ 0 ∷ 1 ∷ 2 ∷ 3 ∷ 4 ∷ 5 ∷ 6 ∷ []
+pub places : map placeOf answers ≡ 0 ∷ 1 ∷ 2 ∷ 3 ∷ 4 ∷ 5 ∷ 6 ∷ []
 unfolding placeOf
 places = refl
 
 -- no refusal is missing in that order: each is found at its number
-pub refusal-at : (r : Refusal) → getD (NodeLength ∷ refusals) (numberOf r) NodeLength ≡ r
+pub refusal-at : (r : Refusal) → refusalOf (numberOf r) ≡ r
 unfolding numberOf
 refusal-at NodeLength = refl
 refusal-at VersionLength = refl
@@ -80,8 +70,13 @@ refusal-at NotOpen = refl
 refusal-at UnknownCommand = refl
 refusal-at CutShort = refl
 
+-- 0 is none's
+pub numbered : (r : Refusal) → numberOf r ≢ 0
+unfolding numberOf
+numbered r e = let one : numberOf r ≡ 1 = ap numberOf (sym (refusal-at r) ∙ ap refusalOf e) in omega (arith, e, one)
+
 -- nor is an answer
-pub answer-at : (a : Answer) → getD all-answers (placeOf a) None ≡ a
+pub answer-at : (a : Answer) → answerOf (placeOf a) ≡ a
 unfolding placeOf
 answer-at TooOld = refl
 answer-at VersionsFull = refl
@@ -93,11 +88,10 @@ answer-at None = refl
 
 -- a number tells its refusal, a place its answer
 pub number-injective : (r d : Refusal) → numberOf r ≡ numberOf d → r ≡ d
-number-injective r d e =
-    sym (refusal-at r) ∙ ap (λ (n : ℕ). getD (NodeLength ∷ refusals) n NodeLength) e ∙ refusal-at d
+number-injective r d e = sym (refusal-at r) ∙ ap refusalOf e ∙ refusal-at d
 
 pub place-injective : (a b : Answer) → placeOf a ≡ placeOf b → a ≡ b
-place-injective a b e = sym (answer-at a) ∙ ap (λ (n : ℕ). getD all-answers n None) e ∙ answer-at b
+place-injective a b e = sym (answer-at a) ∙ ap answerOf e ∙ answer-at b
 
 -- each answer has one of the tally's seven words
 pub place-below : (a : Answer) → placeOf a < limits .answers
@@ -109,6 +103,22 @@ place-below KeysFull = lit< tt
 place-below New = lit< tt
 place-below Found = lit< tt
 place-below None = lit< tt
+
+-- and each word is an answer's
+pub place-at : (n : ℕ) → n < limits .answers → placeOf (answerOf n) ≡ n
+unfolding placeOf
+place-at zero lt = refl
+place-at (suc zero) lt = refl
+place-at (suc (suc zero)) lt = refl
+place-at (suc (suc (suc zero))) lt = refl
+place-at (suc (suc (suc (suc zero)))) lt = refl
+place-at (suc (suc (suc (suc (suc zero))))) lt = refl
+place-at (suc (suc (suc (suc (suc (suc zero)))))) lt = refl
+place-at (suc (suc (suc (suc (suc (suc (suc n))))))) lt = absurd (omega arith)
+
+-- a key is lawful from 1 to 2 to the 64th less 2
+pub lawful-key : (k : ℕ) → (lawfulKey k ≡ true) ↔ ((1 ≤ k) × (k ≤ 18_446_744_073_709_551_614))
+lawful-key k = simp (and-eq-true-iff, leb-iff) ((λ h. h), (λ h. h))
 
 -- what holds of both branches holds of the choice
 choice {ℓ} : {A : Type ℓ} (P : A → Type 0) (b : Bool) (x y : A) → (b ≡ true → P x) → (b ≡ false → P y)
@@ -124,6 +134,54 @@ top-at-most draw =
     (λ h. omega (arith, ltb-true)) (λ h. omega arith)
 
 -- ---- opening
+
+-- what is granted has met no refusal
+pub granted-iff : (b : Bool) (r : Refusal) (rest : Permit)
+    → (denyIf b r rest ≡ Granted) ↔ ((b ≡ false) × (rest ≡ Granted))
+granted-iff false r rest = (λ e. (refl, e), λ f. f .1)
+granted-iff true r rest = (λ e. (cc, cc), λ f. cc (f .0))
+
+-- "Node table: a multiple of 16 words, 32 to 16,384, so K = 1 to 1,023 trays. Reading table: a multiple of 3 words, 6 to 12,288,
+-- so V = 1 to 4,095 readings. Stations 1 to 8."; "The event limit, 1 to 1,000,000,000"
+pub record Fits (f : Fitting) : Type 0 where
+  pub nodes : (K : ℕ) × (f .nodes ≡ 16 * suc K) × (1 ≤ K) × (K ≤ 1_023)
+  pub versions : (W : ℕ) × (f .versions ≡ 3 * suc W) × (1 ≤ W) × (W ≤ 4_095)
+  pub processes : (1 ≤ f .processes) × (f .processes ≤ 8)
+  pub limit : (1 ≤ f .limit) × (f .limit ≤ 1_000_000_000)
+
+-- just such an opening is not refused
+pub granted-fits : (f : Fitting) → openDue f ≡ Granted → Fits f
+unfolding openDue lawfulLength
+granted-fits f e =
+    let g = simp granted-iff at e in
+    let n = simp (and-eq-true-iff, leb-iff, eqb-iff) at (not-false (lawfulNodes (f .nodes)) (g .0)) in
+    let v = simp (and-eq-true-iff, leb-iff, eqb-iff) at (not-false (lawfulVersions (f .versions)) (g .1 .0)) in
+    let p = simp (and-eq-true-iff, leb-iff) at (not-false (within 1 8 (f .processes)) (g .1 .1 .0)) in
+    let l = simp (and-eq-true-iff, leb-iff) at (not-false (within 1 1_000_000_000 (f .limit)) (g .1 .1 .1 .0)) in
+    record {
+      nodes = (f .nodes / 16 - 1, omega (arith, n), omega (arith, n), omega (arith, n));
+      versions = (f .versions / 3 - 1, omega (arith, v), omega (arith, v), omega (arith, v));
+      processes = p;
+      limit = l;
+    }
+
+pub fits-granted : (f : Fitting) → Fits f → openDue f ≡ Granted
+unfolding openDue lawfulLength
+fits-granted f h =
+    let K = h .nodes in
+    let W = h .versions in
+    rw (
+      leb-iff 32 (f .nodes) .1 (omega (arith, K .1, K .2)),
+      leb-iff (f .nodes) 16_384 .1 (omega (arith, K .1, K .3)),
+      eqb-iff (f .nodes % 16) 0 .1 (omega (arith, K .1)),
+      leb-iff 6 (f .versions) .1 (omega (arith, W .1, W .2)),
+      leb-iff (f .versions) 12_288 .1 (omega (arith, W .1, W .3)),
+      eqb-iff (f .versions % 3) 0 .1 (omega (arith, W .1)),
+      leb-iff 1 (f .processes) .1 (h .processes .0),
+      leb-iff (f .processes) 8 .1 (h .processes .1),
+      leb-iff 1 (f .limit) .1 (h .limit .0),
+      leb-iff (f .limit) 1_000_000_000 .1 (h .limit .1),
+    )
 
 -- both tables are those lent, and the state is closed
 pub record Untouched (nodes versions : List ℕ) (o : Opened) : Type 0 where
@@ -151,16 +209,10 @@ open-refused nodes versions processes limit =
 pub open-accepted : (nodes versions : List ℕ) (processes limit : ℕ) → lawfulNodes (length nodes) ≡ true
     → lawfulVersions (length versions) ≡ true → within 1 (limits .processes) processes ≡ true
     → within 1 (limits .events) limit ≡ true → openOf nodes versions processes limit .result .outcome ≡ Opening.Opened
-unfolding openOf openPermit openBy
+unfolding openOf openDue openBy
 open-accepted nodes versions processes limit a b c d = rw (a, b, c, d)
 
 -- ---- starts
-
--- what is granted has met no refusal
-pub granted-iff : (b : Bool) (r : Refusal) (rest : Permit)
-    → (denyIf b r rest ≡ Granted) ↔ ((b ≡ false) × (rest ≡ Granted))
-granted-iff false r rest = (λ e. (refl, e), λ f. f .1)
-granted-iff true r rest = (λ e. (cc, cc), λ f. cc (f .0))
 
 -- "Every accepted start and every step not refused is one event; its tick is the count of events so far, itself
 -- included. The event limit [..] is given at opening, and the count of events in the state never passes it."
@@ -175,10 +227,10 @@ abbrev pub Starts : (before after : State) → Starting → Type 0
 Starts before after (Starting.Refused r) = after ≡ before
 Starts before after (Starting.Started t) = Event before after t
 
-module _ (s : State) (nodes versions : List ℕ) (i k : ℕ) where
-  may-start : startPermit s nodes versions i k ≡ Granted → s .events < s .limit
+module _ (s : State) (nodes versions : List ℕ) (i : ℕ) where
+  may-start : (k : ℕ) → startPermit s nodes versions i k ≡ Granted → s .events < s .limit
   unfolding startPermit
-  may-start e = let f = simp granted-iff at e in leb-false _ _ (f .1 .1 .1 .1 .0)
+  may-start k e = let f = simp granted-iff at e in leb-false _ _ (f .1 .1 .1 .1 .0)
 
   starts-by : (p : Permit) → (p ≡ Granted → s .events < s .limit) → (call : Call)
       → let o = startBy p s i call in Starts s (o .state) (o .outcome)
@@ -186,27 +238,14 @@ module _ (s : State) (nodes versions : List ℕ) (i k : ℕ) where
   starts-by (Denied r) h call = refl
   starts-by Granted h call = omega (arith, h refl)
 
-  -- so for a put
-  pub starts-put : (v t draw : ℕ)
-      → let o = startPutOf s nodes versions i k v t draw in Starts s (o .state) (o .outcome)
-  unfolding startPutOf
-  starts-put v t draw = starts-by (startPermit s nodes versions i k) may-start _
-
-  -- and for a get
-  pub starts-get : let o = startGetOf s nodes versions i k in Starts s (o .state) (o .outcome)
-  unfolding startGetOf
-  starts-get = starts-by (startPermit s nodes versions i k) may-start _
+  pub starts : (op : Operation) → let o = startOf s nodes versions i op in Starts s (o .state) (o .outcome)
+  unfolding startOf
+  starts op = starts-by (startPermit s nodes versions i (keyOf op)) (may-start (keyOf op)) _
 
   -- whenever a start is refused, its state is the one given
-  pub put-refused : (v t draw : ℕ) (r : Refusal)
-      → startPutOf s nodes versions i k v t draw .outcome ≡ Starting.Refused r
-      → startPutOf s nodes versions i k v t draw .state ≡ s
-  put-refused v t draw r e = rw e at (starts-put v t draw)
-
-  pub get-refused : (r : Refusal)
-      → startGetOf s nodes versions i k .outcome ≡ Starting.Refused r
-      → startGetOf s nodes versions i k .state ≡ s
-  get-refused r e = rw e at starts-get
+  pub start-refused : (op : Operation) (r : Refusal)
+      → startOf s nodes versions i op .outcome ≡ Starting.Refused r → startOf s nodes versions i op .state ≡ s
+  start-refused op r e = rw e at (starts op)
 
 -- ---- one turn: of its moves, refuse and wait change no memory
 
@@ -394,75 +433,3 @@ pub look-shows : (s : State) (nodes versions : List ℕ) (k back : ℕ) (v : Ver
     → lookOf s nodes versions k back ≡ Looking.Shown v → back < s .counts .versions
 unfolding lookOf
 look-shows s nodes versions k back = look-falls (lookPermit s nodes versions k) _ k back
-
--- ---- the observer of demand 3
-
--- what is due of a start, and of a step: the refusal that was given, or none and the tick that was told
-abbrev pub StartIsDue : Permit → (tick : ℕ) → Starting → Type 0
-StartIsDue due tick (Starting.Refused r) = due ≡ Denied r
-StartIsDue due tick (Starting.Started t) = (due ≡ Granted) × (t ≡ tick)
-
-abbrev pub StepIsDue : Permit → (tick : ℕ) → Stepping → Type 0
-StepIsDue due tick (Stepping.Refused r) = due ≡ Denied r
-StepIsDue due tick (Stepping.Moved t) = (due ≡ Granted) × (t ≡ tick)
-StepIsDue due tick (Stepping.Waited t) = (due ≡ Granted) × (t ≡ tick)
-StepIsDue due tick (Stepping.Finished f) = (due ≡ Granted) × (f .finish ≡ tick)
-
-no-fault : (n : ℕ) (b : Bool) → n + unless b ≡ n → b ≡ true
-no-fault n true e = refl
-no-fault n false e = absurd (omega arith)
-
-granted-true : (p : Permit) → isGranted p ≡ true → p ≡ Granted
-granted-true Granted e = refl
-granted-true (Denied r) e = cc
-
-denied-true : (p : Permit) (r : Refusal) → isDenied p r ≡ true → p ≡ Denied r
-denied-true Granted r e = cc
-denied-true (Denied d) r e = ap Denied (number-injective d r (eqb-true _ _ e))
-
--- an event that counts no fault was granted, and told the tick
-event-due : (n : ℕ) (p : Permit) (t tick : ℕ) → n + unless (isGranted p && eqb t tick) ≡ n → (p ≡ Granted) × (t ≡ tick)
-event-due n p t tick e =
-    let f = simp and-eq-true-iff at (no-fault n (isGranted p && eqb t tick) e) in
-    (granted-true p (f .0), eqb-true t tick (f .1))
-
--- the observer counts a fault wherever an outcome is not the one due
-pub start-observed : (h : History) (a : Action) (i : ℕ) (op : Operation) (o : Starting)
-    → sawStart h a i op o .faults ≡ h .faults → StartIsDue (startDue h i (op .key)) (suc (length (h .log))) o
-unfolding sawStart
-start-observed h a i op (Starting.Refused r) e = denied-true _ r (no-fault _ _ e)
-start-observed h a i op (Starting.Started t) e = event-due (h .faults) _ t _ e
-
-pub step-observed : (h : History) (i : ℕ) (o : Stepping)
-    → sawStep h i o .faults ≡ h .faults → StepIsDue (stepDue h i) (suc (length (h .log))) o
-unfolding sawStep
-step-observed h i (Stepping.Refused r) e = denied-true _ r (no-fault _ _ e)
-step-observed h i (Stepping.Moved t) e = event-due (h .faults) _ t _ e
-step-observed h i (Stepping.Waited t) e = event-due (h .faults) _ t _ e
-step-observed h i (Stepping.Finished f) e = event-due (h .faults) _ (f .finish) _ e
-
-start-counts : (h : History) (a : Action) (i : ℕ) (op : Operation) (o : Starting)
-    → h .faults ≤ sawStart h a i op o .faults
-unfolding sawStart
-start-counts h a i op (Starting.Refused r) = omega arith
-start-counts h a i op (Starting.Started t) = omega arith
-
-step-counts : (h : History) (i : ℕ) (o : Stepping) → h .faults ≤ sawStep h i o .faults
-unfolding sawStep
-step-counts h i (Stepping.Refused r) = omega arith
-step-counts h i (Stepping.Moved t) = omega arith
-step-counts h i (Stepping.Waited t) = omega arith
-step-counts h i (Stepping.Finished f) = omega arith
-
-action-counts : (r : Run) (a : Action) → r .history .faults ≤ perform r a .history .faults
-unfolding perform sawLook
-action-counts r (startPut i k v t draw) = start-counts (r .history) _ i _ _
-action-counts r (startGet i k) = start-counts (r .history) _ i _ _
-action-counts r (step i) = step-counts (r .history) i _
-action-counts r (look k back) = omega arith
-
--- no fault is forgotten: none at the end is none on the way
-pub faults-stay : (r : Run) (actions : List Action) → r .history .faults ≤ performAll r actions .history .faults
-unfolding performAll
-faults-stay r [] = omega arith
-faults-stay r (a ∷ rest) = le-trans (action-counts r a) (faults-stay (perform r a) rest)

@@ -1,7 +1,9 @@
 pub mod Bench
 pub mod Starred
 pub mod Damage
+pub mod Seen
 pub mod Laws
+pub mod Due
 pub mod Tests
 pub mod Words
 pub mod Level
@@ -32,4 +34,7 @@ pub mod LevelInspected
 pub mod Inspected
 pub mod Rested
 pub mod Claimed
+pub mod Linearized
+pub mod Refuted
+pub mod Simulated
 pub mod Touched

@@ -8,20 +8,22 @@ use native.Mathlib.Omega.{arith}
 use lib.Dec.{T, eqb, leb, le→leb}
 use lib.ListN.{length, getD, set, length-append}
 use lib.Seq.{getD-set-same, getD-set-other}
-use Rattle.model.specs.Types.{Kind, Idle, Put, Get, Answer, Process}
+use Rattle.model.specs.Types.{Kind, Idle, Put, Get, Answer, NoProcess, Call, Process, Status}
 use Rattle.model.specs.Choice.{if_then_else_}
 use Rattle.model.specs.Layout.{Memory, nodeWords, versionWords, capacity, top}
 use Rattle.model.specs.Map.{Map}
 use Rattle.model.specs.Numbers.{placeOf}
-use Rattle.model.specs.State.{noProcess, processAt, memoryOf, withEvent, lawfulNodes, lawfulVersions, lawfulState, lawfulStore, isIdle}
+use Rattle.model.specs.State.{noProcess, idleProcess, processAt, memoryOf, withEvent, lawfulNodes, lawfulVersions, lawfulState, lawfulStore, isIdle}
 use Rattle.model.specs.Phases.{ownVersion, maxNodes, maxVersions}
-use Rattle.model.specs.Calls.{Store, standing, statusPermit, statusBy, statusOf}
-use Rattle.model.specs.History.{Action, Invoked, Completed, History, invokedAt, sawRefusal}
-use Rattle.model.specs.Linearizability.{All, answeredBy}
+use Rattle.model.specs.Calls.{callFor, Store, standing, statusPermit, statusBy, statusOf}
+use Rattle.model.specs.Requests.{Operation, put, get, kindOf}
+use Rattle.model.specs.History.{Action, Invoked, Pending, no-call, has-call, pendingAt, isFree, Completed}
+use Rattle.model.specs.Linearizability.{All, Any, countedAt}
 use Rattle.model.proofs.Tests.{is-true, by-eq, if-yes, if-no, eq→eqb, ne→neqb}
 use Rattle.model.proofs.Invariant.{Ghost, Nodes, Book, Fits, Climbs}
 use Rattle.model.proofs.Locks.{Named}
-use Rattle.model.proofs.Effects.{Took, nothing, took, fed, played, played-snoc, all-map, Entered, Settles, LookedAt, entered-grow, settles-grow, looked-grow, effect-cases}
+use Rattle.model.proofs.Effects.{Took, nothing, took, fed, played, played-snoc, Grows, all-map, Entered, Settles, LookedAt, entered-grow, settles-grow, looked-grow, effect-cases}
+use Rattle.model.proofs.Seen.{Seen, sawRefusal}
 
 abbrev pub memory : Store → Memory
 memory w = memoryOf (w .state) (w .nodes) (w .versions)
@@ -47,34 +49,28 @@ pub record Core (w : Store) (g : Ghost) (b : Map) : Type 0 where
   pub locks : (i : ℕ) → Named (memory w) i (slot w i)
   pub beyond : (i : ℕ) → w .state .processes ≤ i → slot w i .call .kind ≡ Idle
 
--- the call of a process as the observer has it
-abbrev pub invokedOf : Process → Invoked
-invokedOf pr = record {
-  operation = record { kind = pr .call .kind; key = pr .call .key; value = pr .call .value; timestamp = pr .call .timestamp };
-  start = pr .call .start;
-}
+-- what a process keeps of the call that it has
+abbrev pub keptOf : Pending → Call
+keptOf no-call = idleProcess .call
+keptOf (has-call c) = callFor (c .operation) (c .start)
 
-pub record Track (K W : ℕ) (log : List Action) (eff : List Took) (i : ℕ) (c : Invoked) (pr : Process) : Type 0 where
-  pub same : c ≡ invokedOf pr
+pub record Track (K W : ℕ) (log : List Action) (eff : List Took) (i : ℕ) (c : Pending) (pr : Process) : Type 0 where
+  pub same : pr .call ≡ keptOf c
   pub resting : pr .call .kind ≡ Idle → pr .effect .tick ≡ 0
   pub begun : pr .call .start ≤ length log
-  pub entered : pr .effect .tick ≢ 0
-      → Entered K W log eff i c (pr .effect .tick) (record { answer = pr .effect .answer; version = ownVersion (pr .call) })
-
-abbrev pub Any : {A : Type 0} → (A → Type 0) → List A → Type 0
-Any P [] = ⊥
-Any P (x ∷ xs) = P x ⊎ Any P xs
+  pub entered : (d : Invoked) → c ≡ has-call d → pr .effect .tick ≢ 0
+      → Entered K W log eff i d (pr .effect .tick) (record { answer = pr .effect .answer; version = ownVersion (pr .call) })
 
 -- the call that took effect at event n + 1 is a finished one, or still runs
 abbrev pub EndedAt : (n i : ℕ) → Invoked → Completed → Type 0
 EndedAt n i c d = (d .process ≡ i) × (d .invoked ≡ c) × (d .told .effect ≡ suc n)
 
-abbrev pub Left : History → Store → (n i : ℕ) → Invoked → Type 0
-Left h w n i c = Any (EndedAt n i c) (h .completed) ⊎ ((h .invoked i ≡ c) × (slot w i .effect .tick ≡ suc n))
+abbrev pub Left : Seen → Store → (n i : ℕ) → Invoked → Type 0
+Left h w n i c = Any (EndedAt n i c) (h .completed) ⊎ ((h .pending i ≡ has-call c) × (slot w i .effect .tick ≡ suc n))
 
 -- the finished calls of a process ended before its next one started
-abbrev pub Before : (ℕ → Invoked) → List Completed → Type 0
-Before f ds = (i : ℕ) → f i .operation .kind ≢ Idle → All (λ (d : Completed). d .process ≡ i → d .ended < f i .start) ds
+abbrev pub Before : (ℕ → Pending) → List Completed → Type 0
+Before f ds = (i : ℕ) (c : Invoked) → f i ≡ has-call c → All (λ (d : Completed). d .process ≡ i → d .ended < c .start) ds
 
 abbrev pub Pairs : List Completed → Type 0
 Pairs [] = Unit {0}
@@ -85,7 +81,7 @@ unfoldable pub busyBelow : List Process → ℕ → ℕ
 busyBelow l zero = 0
 busyBelow l (suc n) = (if isIdle (getD l n noProcess .call .kind) then 0 else 1) + busyBelow l n
 
-pub record Hist (K W : ℕ) (w : Store) (h : History) (b : Map) (eff : List Took) : Type 0 where
+pub record Hist (K W : ℕ) (w : Store) (h : Seen) (b : Map) (eff : List Took) : Type 0 where
   pub processes-is : h .processes ≡ w .state .processes
   pub limit-is : h .limit ≡ w .state .limit
   pub ticks : length (h .log) ≡ w .state .events
@@ -94,22 +90,27 @@ pub record Hist (K W : ℕ) (w : Store) (h : History) (b : Map) (eff : List Took
   pub W-is : maxVersions (memory w) ≡ W
   pub book-is : b ≡ played K W [] eff
   pub done : All (Settles K W (h .log) eff) (h .completed)
-  pub track : (i : ℕ) → Track K W (h .log) eff i (h .invoked i) (slot w i)
+  pub track : (i : ℕ) → Track K W (h .log) eff i (h .pending i) (slot w i)
   pub nothing-else : (n i : ℕ) (c : Invoked) → getD eff n nothing ≡ took i c → Left h w n i c
   pub looks : All (LookedAt K W eff) (h .queries)
-  pub tally : (a : Answer) → getD (w .tally) (placeOf a) 0 ≡ answeredBy a (h .completed)
+  pub tally : (a : Answer) → getD (w .tally) (placeOf a) 0 ≡ countedAt (placeOf a) (h .completed)
   pub counted : h .starts ≡ length (h .completed) + busyBelow (w .state .process) (w .state .processes)
   pub few : h .starts ≤ length (h .log)
   pub faults : h .faults ≡ 0
-  pub past : Before (h .invoked) (h .completed)
+  pub past : Before (h .pending) (h .completed)
   pub pairs : Pairs (h .completed)
 
-pub record Live (K W : ℕ) (w : Store) (h : History) : Type 0 where
+-- the effects are those of `from`, and more
+pub record LiveFrom (from : List Took) (K W : ℕ) (w : Store) (h : Seen) : Type 0 where
   pub g : Ghost
   pub b : Map
   pub eff : List Took
   pub core : Core w g b
   pub hist : Hist K W w h b eff
+  pub grows : Grows from eff
+
+abbrev pub Live : (K W : ℕ) (w : Store) (h : Seen) → Type 0
+Live = LiveFrom []
 
 -- ---- the store is lawful, and standing shows each process
 
@@ -149,19 +150,15 @@ status-is {w} c i lt = rw (is-true (lawfulState (w .state)) (core-state c), not-
     not-le true e = absurd (omega (arith, lib.Dec.leb→le (w .state .processes) i (Rattle.model.proofs.Tests.T-true e)))
     not-le false e = e
 
+pub status-beyond : {w : Store} {g : Ghost} {b : Map} → Core w g b → (i : ℕ) → w .state .processes ≤ i
+    → statusOf (w .state) i ≡ Status.Refused NoProcess
+unfolding statusOf statusPermit statusBy
+status-beyond {w} c i le = rw (
+  is-true (lawfulState (w .state)) (core-state c),
+  is-true (leb (w .state .processes) i) (le→leb (w .state .processes) i le),
+)
+
 -- ---- small laws
-
-pub idle-is : (k : Kind) → T (isIdle k) → k ≡ Idle
-unfolding isIdle
-idle-is Idle t = refl
-idle-is Put t = absurd t
-idle-is Get t = absurd t
-
-pub not-idle : (k : Kind) → T (not (isIdle k)) → k ≢ Idle
-unfolding isIdle
-not-idle Idle t e = t
-not-idle Put t e = let z : _≡_ {A = ℕ} 0 1 = cc in omega arith
-not-idle Get t e = let z : _≡_ {A = ℕ} 0 1 = cc in omega arith
 
 pub one-busy : (k : Kind) → k ≢ Idle → _≡_ {A = ℕ} (if isIdle k then 0 else 1) 1
 unfolding isIdle
@@ -173,13 +170,35 @@ pub none-busy : (k : Kind) → k ≡ Idle → _≡_ {A = ℕ} (if isIdle k then 
 unfolding isIdle
 none-busy k e = rw e refl
 
-pub invoked-same : (f : ℕ → Invoked) (i : ℕ) (c : Invoked) → invokedAt f i c i ≡ c
-unfolding invokedAt
-invoked-same f i c = if-yes (eqb i i) c (f i) (eq→eqb i i refl)
+-- a process keeps a kind just when it has a call
+pub kept-kind : (op : Operation) (start : ℕ) → callFor op start .kind ≡ kindOf op
+unfolding callFor
+kept-kind (put k v t draw) start = refl
+kept-kind (get k) start = refl
 
-pub invoked-other : (f : ℕ → Invoked) (i : ℕ) (c : Invoked) (j : ℕ) → j ≢ i → invokedAt f i c j ≡ f j
-unfolding invokedAt
-invoked-other f i c j ne = if-no (eqb j i) c (f j) (ne→neqb j i ne)
+pub kind≢idle : (op : Operation) → kindOf op ≢ Idle
+kind≢idle (put k v t draw) e = let z : _≡_ {A = ℕ} 0 1 = cc in omega arith
+kind≢idle (get k) e = let z : _≡_ {A = ℕ} 0 1 = cc in omega arith
+
+pub idle-free : (c : Pending) → isIdle (keptOf c .kind) ≡ isFree c
+unfolding isIdle
+idle-free no-call = refl
+idle-free (has-call c) = by (c .operation)
+  where
+    by : (op : Operation) → isIdle (callFor op (c .start) .kind) ≡ false
+    by (put k v t draw) = unfold callFor in refl
+    by (get k) = unfold callFor in refl
+
+pub has-injective : {c d : Invoked} → has-call c ≡ has-call d → c ≡ d
+has-injective e = cc
+
+pub pending-same : (f : ℕ → Pending) (i : ℕ) (c : Pending) → pendingAt f i c i ≡ c
+unfolding pendingAt
+pending-same f i c = if-yes (eqb i i) c (f i) (eq→eqb i i refl)
+
+pub pending-other : (f : ℕ → Pending) (i : ℕ) (c : Pending) (j : ℕ) → j ≢ i → pendingAt f i c j ≡ f j
+unfolding pendingAt
+pending-other f i c j ne = if-no (eqb j i) c (f j) (ne→neqb j i ne)
 
 -- one process of the array is replaced
 pub busy-set : (l : List Process) (i n : ℕ) (pr : Process) → i < n → i < length l
@@ -197,8 +216,8 @@ busy-set l i (suc n) pr h h′ = by-eq i n
 
 -- ---- an event that is refused, and one that is not
 
-pub refused-live : {K W : ℕ} {w : Store} {h : History} (right : Bool) → T right → Live K W w h → Live K W w (sawRefusal h right)
-refused-live {K} {W} {w} {h} right t l =
+pub refused-live : {from : List Took} {K W : ℕ} {w : Store} {h : Seen} (right : Bool) → T right → LiveFrom from K W w h → LiveFrom from K W w (sawRefusal h right)
+refused-live {from} {K} {W} {w} {h} right t l =
     let k = l .hist in
     record {
       g = l .g;
@@ -224,22 +243,23 @@ refused-live {K} {W} {w} {h} right t l =
         past = k .past;
         pairs = k .pairs;
       };
+      grows = l .grows;
     }
 
 -- an event of process i: a call x that took effect or none, and what it leaves of store and history
-module _ (K W : ℕ) (w : Store) (h : History) (b : Map) (eff : List Took) (k : Hist K W w h b eff)
+module _ (K W : ℕ) (w : Store) (h : Seen) (b : Map) (eff : List Took) (k : Hist K W w h b eff)
     (eight : length (w .state .process) ≡ 8)
     (i : ℕ) (i8 : i < 8) (a : Action) (x : Took) (m : Memory) (pr : Process) (tly : List ℕ)
-    (invoked : ℕ → Invoked) (starts : ℕ) (completed : List Completed) (faults : ℕ) (b′ : Map) where
+    (pending : ℕ → Pending) (starts : ℕ) (completed : List Completed) (faults : ℕ) (b′ : Map) where
   abbrev pub w′ : Store
   w′ = record { state = withEvent (w .state) i (m .counts) pr; nodes = m .nodes; versions = m .versions; tally = tly }
 
-  abbrev pub h′ : History
+  abbrev pub h′ : Seen
   h′ = record {
     processes = h .processes;
     limit = h .limit;
     log = h .log ++ (a ∷ []);
-    invoked = invoked;
+    pending = pending;
     starts = starts;
     completed = completed;
     queries = h .queries;
@@ -255,13 +275,13 @@ module _ (K W : ℕ) (w : Store) (h : History) (b : Map) (eff : List Took) (k : 
   pub slot-other : (j : ℕ) → j ≢ i → slot w′ j ≡ slot w j
   slot-other j ne = getD-set-other (w .state .process) i j pr noProcess ne
 
-  track-grow : {j : ℕ} {c : Invoked} {q : Process} → Track K W (h .log) eff j c q
+  track-grow : {j : ℕ} {c : Pending} {q : Process} → Track K W (h .log) eff j c q
       → Track K W (h .log ++ (a ∷ [])) (eff ++ (x ∷ [])) j c q
   track-grow t = record {
     same = t .same;
     resting = t .resting;
     begun = omega (arith, t .begun, length-append (h .log) (a ∷ []));
-    entered = λ ne. entered-grow K W (h .log) eff a x even (t .entered ne);
+    entered = λ d e ne. entered-grow K W (h .log) eff a x even (t .entered d e ne);
   }
 
   pub done-grow : All (Settles K W (h .log ++ (a ∷ [])) (eff ++ (x ∷ []))) (h .completed)
@@ -272,17 +292,17 @@ module _ (K W : ℕ) (w : Store) (h : History) (b : Map) (eff : List Took) (k : 
     pub K-same : length (m .nodes) ≡ length (w .nodes)
     pub W-same : length (m .versions) ≡ length (w .versions)
     pub map-is : b′ ≡ fed K W b x
-    pub others : (j : ℕ) → j ≢ i → invoked j ≡ h .invoked j
-    pub track : Track K W (h .log ++ (a ∷ [])) (eff ++ (x ∷ [])) i (invoked i) pr
+    pub others : (j : ℕ) → j ≢ i → pending j ≡ h .pending j
+    pub track : Track K W (h .log ++ (a ∷ [])) (eff ++ (x ∷ [])) i (pending i) pr
     pub done : All (Settles K W (h .log ++ (a ∷ [])) (eff ++ (x ∷ []))) completed
     pub kept : (n j : ℕ) (c : Invoked) → Any (EndedAt n j c) (h .completed) → Any (EndedAt n j c) completed
-    pub old : (n : ℕ) (c : Invoked) → h .invoked i ≡ c → slot w i .effect .tick ≡ suc n → Left h′ w′ n i c
+    pub old : (n : ℕ) (c : Invoked) → h .pending i ≡ has-call c → slot w i .effect .tick ≡ suc n → Left h′ w′ n i c
     pub now : (n j : ℕ) (c : Invoked) → n ≡ length (h .log) → x ≡ took j c → Left h′ w′ n j c
-    pub tally : (q : Answer) → getD tly (placeOf q) 0 ≡ answeredBy q completed
+    pub tally : (q : Answer) → getD tly (placeOf q) 0 ≡ countedAt (placeOf q) completed
     pub counted : starts ≡ length completed + busyBelow (set (w .state .process) i pr) (w .state .processes)
     pub few : starts ≤ suc (length (h .log))
     pub no-faults : faults ≡ 0
-    pub past : Before invoked completed
+    pub past : Before pending completed
     pub pairs : Pairs completed
 
   pub event-hist : Event → Hist K W w′ h′ b′ (eff ++ (x ∷ []))
@@ -314,5 +334,5 @@ module _ (K W : ℕ) (w : Store) (h : History) (b : Map) (eff : List Took) (k : 
       left n j c (inl d) = inl (e .kept n j c d)
       left n j c (inr r) = by-eq j i
           (λ q. subst (λ z. Left h′ w′ n z c) (sym q)
-          (e .old n c (subst (λ z. h .invoked z ≡ c) q (r .0)) (subst (λ z. slot w z .effect .tick ≡ suc n) q (r .1))))
+          (e .old n c (subst (λ z. h .pending z ≡ has-call c) q (r .0)) (subst (λ z. slot w z .effect .tick ≡ suc n) q (r .1))))
           (λ ne. inr (e .others j ne ∙ r .0, ap (λ (z : Process). z .effect .tick) (slot-other j ne) ∙ r .1))

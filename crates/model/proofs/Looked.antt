@@ -16,13 +16,13 @@ use Rattle.model.specs.Map as Seq
 use Rattle.model.specs.State.{lawfulKey}
 use Rattle.model.specs.Phases.{usedVersion}
 use Rattle.model.specs.Calls.{Store, findFrom, backFrom, lookNode, lookPermit, lookBy, lookOf}
-use Rattle.model.specs.History.{History, sawLook}
 use Rattle.model.proofs.Tests.{if-yes, if-no, if-eq, by-eq, by-test, is-true, and→, eq→eqb, ne→neqb, not-not}
 use Rattle.model.proofs.MapLaws.{no-entry, versions-first}
 use Rattle.model.proofs.Invariant.{Ghost, Nodes, Chain, Book}
 use Rattle.model.proofs.Step.{no-node, first-at, within-T}
-use Rattle.model.proofs.Effects.{played}
-use Rattle.model.proofs.Live.{memory, Live, core-lawful}
+use Rattle.model.proofs.Effects.{Took, played}
+use Rattle.model.proofs.Live.{memory, LiveFrom, core-lawful}
+use Rattle.model.proofs.Seen.{Seen, sawLook}
 
 -- the first node with the key, or 0 where none of `left` nodes from x on has it
 find-by : (t : List ℕ) (k : ℕ) (P : ℕ → Type 0) (left x : ℕ)
@@ -83,7 +83,7 @@ module _ (m : Memory) (g : Ghost) (b : Map) (N : Nodes m g) (B : Book m b) (k ba
       (λ q. f z (omega arith) (omega arith))))
       (λ z a c e. node-right z a (omega arith) e)
 
-pub look-outcome : {K W : ℕ} {w : Store} {h : History} (l : Live K W w h) (k back : ℕ)
+pub look-outcome : {from : List Took} {K W : ℕ} {w : Store} {h : Seen} (l : LiveFrom from K W w h) (k back : ℕ)
     → lookOf (w .state) (w .nodes) (w .versions) k back ≡ (if lawfulKey k then lookIn (l .b) k back else Looking.Refused BadKey)
 unfolding lookOf lookPermit
 look-outcome {w = w} l k back =
@@ -96,10 +96,10 @@ look-outcome {w = w} l k back =
     is-false true t = absurd t
     is-false false t = refl
 
-pub look-live : {K W : ℕ} {w : Store} {h : History} (l : Live K W w h) (k back : ℕ)
-    → Live K W w (sawLook h k back (lookOf (w .state) (w .nodes) (w .versions) k back))
+pub look-live : {from : List Took} {K W : ℕ} {w : Store} {h : Seen} (l : LiveFrom from K W w h) (k back : ℕ)
+    → LiveFrom from K W w (sawLook h k back (lookOf (w .state) (w .nodes) (w .versions) k back))
 unfolding sawLook
-look-live {K} {W} {w} {h} l k back =
+look-live {from} {K} {W} {w} {h} l k back =
     let q = l .hist in
     let whole : take (length (h .log)) (l .eff) ≡ l .eff = take-all (length (h .log)) (l .eff) (omega (arith, q .ticks, q .one-each)) in
     record {
@@ -133,4 +133,5 @@ look-live {K} {W} {w} {h} l k back =
         past = q .past;
         pairs = q .pairs;
       };
+      grows = l .grows;
     }

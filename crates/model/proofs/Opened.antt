@@ -12,9 +12,9 @@ use Rattle.model.specs.Layout.{Memory, nodeWords, versionWords, limits, 
 use Rattle.model.specs.Map.{held}
 use Rattle.model.specs.Numbers.{placeOf}
 use Rattle.model.specs.State.{idleProcess, noProcess, freshState, within, lawfulLength, lawfulNodes, lawfulVersions, isIdle}
-use Rattle.model.specs.Calls.{openPermit, Opened, openBy, openOf, Store}
-use Rattle.model.specs.History.{emptyHistory, begin}
-use Rattle.model.specs.Linearizability.{answeredBy}
+use Rattle.model.specs.Calls.{openDue, openPermit, Opened, openBy, openOf, Store}
+use Rattle.model.specs.ByValue.{freshStore}
+use Rattle.model.specs.Linearizability.{countedAt}
 use Rattle.model.proofs.Tests.{if-by, and→, by-le}
 use Rattle.model.proofs.Words.{filled, zero-key, length-word, word-same, word-other}
 use Rattle.model.proofs.Level.{Level}
@@ -22,6 +22,7 @@ use Rattle.model.proofs.Invariant.{Ghost, In, Nodes, Book, Fits}
 use Rattle.model.proofs.Effects.{nothing, played, nothing≢took}
 use Rattle.model.proofs.Live.{Core, Track, busyBelow, Hist, Live, slot}
 use Rattle.model.proofs.Started.{granted≢denied}
+use Rattle.model.proofs.Seen.{emptySeen}
 
 -- what an accepted opening was given
 pub record Lawful (nodes versions : List ℕ) (processes limit : ℕ) : Type 0 where
@@ -39,7 +40,7 @@ in-range low high n t = let q = and→ (leb low n) (leb n high) t in (leb→le l
 
 granted-lawful : (nodes versions : List ℕ) (processes limit : ℕ) → openPermit nodes versions processes limit ≡ Granted
     → Lawful nodes versions processes limit
-unfolding openPermit
+unfolding openDue
 granted-lawful nodes versions processes limit =
     let P : Permit → Type 0 = λ d. d ≡ Granted → Lawful nodes versions processes limit in
     if-by P (not (lawfulNodes (length nodes))) (λ t e. absurd (granted≢denied e)) λ t1.
@@ -184,8 +185,8 @@ module _ (nodes versions : List ℕ) (processes limit : ℕ) (law : Lawful nodes
   none-busy zero = refl
   none-busy (suc k) = rw (fresh-slot (λ q. q .call .kind ≡ Idle) refl refl k) (omega (arith, none-busy k))
 
-  fresh-hist : Hist (capacity nodeWords n) (capacity versionWords (length versions)) w₀ (emptyHistory processes limit) [] []
-  unfolding played answeredBy
+  fresh-hist : Hist (capacity nodeWords n) (capacity versionWords (length versions)) w₀ (emptySeen processes limit) [] []
+  unfolding played countedAt
   fresh-hist = record {
     processes-is = refl;
     limit-is = refl;
@@ -196,34 +197,34 @@ module _ (nodes versions : List ℕ) (processes limit : ℕ) (law : Lawful nodes
     book-is = refl;
     done = tt;
     track =
-        λ i. fresh-slot (λ q. Track (capacity nodeWords n) (capacity versionWords (length versions)) [] [] i Rattle.model.specs.History.noInvoked q)
-        (record { same = refl; resting = λ e. refl; begun = omega arith; entered = λ ne. absurd (ne refl) })
-        (record { same = refl; resting = λ e. refl; begun = omega arith; entered = λ ne. absurd (ne refl) }) i;
+        λ i. fresh-slot (λ q. Track (capacity nodeWords n) (capacity versionWords (length versions)) [] [] i Rattle.model.specs.History.no-call q)
+        (record { same = refl; resting = λ e. refl; begun = omega arith; entered = λ d e ne. absurd (ne refl) })
+        (record { same = refl; resting = λ e. refl; begun = omega arith; entered = λ d e ne. absurd (ne refl) }) i;
     nothing-else = λ k i c e. absurd (nothing≢took e);
     looks = tt;
     tally = λ a. filled {A = ℕ} 7 (placeOf a) 0;
     counted = omega (arith, none-busy processes);
     few = omega arith;
     faults = refl;
-    past = λ i ne. tt;
+    past = λ i c e. tt;
     pairs = tt;
   }
 
 -- the store that an accepted opening leaves
 pub opened-live : (nodes versions : List ℕ) (processes limit : ℕ)
     → openOf nodes versions processes limit .result .outcome ≡ Opening.Opened
-    → let r = begin (openOf nodes versions processes limit) processes limit in
-    Live (capacity nodeWords (length nodes)) (capacity versionWords (length versions)) (r .store) (r .history)
+    → Live (capacity nodeWords (length nodes)) (capacity versionWords (length versions))
+    (freshStore (openOf nodes versions processes limit)) (emptySeen processes limit)
 unfolding openOf
 opened-live nodes versions processes limit = go (openPermit nodes versions processes limit) refl
   where
     go : (d : Permit) → openPermit nodes versions processes limit ≡ d
         → openBy d nodes versions processes limit .result .outcome ≡ Opening.Opened
-        → let r = begin (openBy d nodes versions processes limit) processes limit in
-        Live (capacity nodeWords (length nodes)) (capacity versionWords (length versions)) (r .store) (r .history)
+        → Live (capacity nodeWords (length nodes)) (capacity versionWords (length versions))
+        (freshStore (openBy d nodes versions processes limit)) (emptySeen processes limit)
     go (Denied x) e o = absurd (unfold openBy in (refused≢opened x o))
       where
         refused≢opened : (x : Refusal) → Opening.Refused x ≡ Opening.Opened → ⊥
         refused≢opened x o = let z : _≡_ {A = ℕ} 0 1 = cc in omega arith
     go Granted e o = unfold openBy in (let law = granted-lawful nodes versions processes limit e in
-        record { g = g₀ nodes versions processes limit law; b = []; eff = []; core = fresh-core nodes versions processes limit law; hist = fresh-hist nodes versions processes limit law })
+        record { g = g₀ nodes versions processes limit law; b = []; eff = []; core = fresh-core nodes versions processes limit law; hist = fresh-hist nodes versions processes limit law; grows = (omega arith, λ n lt. refl) })

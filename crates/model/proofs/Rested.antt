@@ -1,12 +1,13 @@
--- A store in order without a running call is sound: nobody holds a lock, and every node is linked up to its top.
+-- A store in order without a running call is sound: nobody holds a lock, and every node is linked up to its top. With one, its
+-- inspection is refused.
 use Prim.Native.Nat.{ℕ, zero, suc, _≤_, _<_}
-use mathlib.Core.Bool.{true}
+use mathlib.Core.Bool.{Bool, true, false, _&&_}
 use mathlib.Core.List.{List, [], _∷_}
 use mathlib.Core.Logic.{_≢_}
-use mathlib.Core.Path.{_≡_, refl, sym, ap, _∙_}
+use mathlib.Core.Path.{_≡_, refl, sym, ap, _∙_, subst}
 use native.Mathlib.Omega.{arith}
 use lib.ListN.{getD}
-use Rattle.model.specs.Types.{Kind, Idle, Put, Get, Process, Version, Inspecting, Status}
+use Rattle.model.specs.Types.{Kind, Idle, Put, Get, Busy, Process, Version, Inspecting, Status}
 use Rattle.model.specs.Layout.{Memory, key, newest, top, next, lock, prev}
 use Rattle.model.specs.Map.{Map}
 use Rattle.model.specs.State.{isIdle}
@@ -100,3 +101,27 @@ idle-sound {w} k f =
       where
         running≢idle : {q : Kind} {s t : ℕ} → Status.Running q s t ≡ Status.Idle → ⊥
         running≢idle e = let z : _≡_ {A = ℕ} 0 1 = cc in omega arith
+
+-- standing shows a call at some process, so the inspection is refused
+pub busy-inspects : {w : Store} {g : Ghost} {b : Map} → Core w g b → (i : ℕ) → i < w .state .processes
+    → statusOf (w .state) i ≢ Status.Idle → inspectOf (w .state) (w .nodes) (w .versions) ≡ Inspecting.Refused Busy
+unfolding inspectOf inspectPermit idleBelow
+busy-inspects {w} k i below ne = rw (core-lawful k, some-busy (w .state .processes) below) (unfold inspectBy in refl)
+  where
+    by-kind : (kind : Kind) (pr : Process) → standing kind pr ≢ Status.Idle → isIdle kind ≡ false
+    by-kind Idle pr h = absurd (h (unfold standing in refl))
+    by-kind Put pr h = unfold isIdle in refl
+    by-kind Get pr h = unfold isIdle in refl
+
+    busy : isIdle (slot w i .call .kind) ≡ false
+    busy = by-kind (slot w i .call .kind) (slot w i) (λ e. ne (status-is k i below ∙ e))
+
+    not-both : (x : Bool) → (x && false) ≡ false
+    not-both true = refl
+    not-both false = refl
+
+    some-busy : (n : ℕ) → i < n → idleBelow (w .state) n ≡ false
+    some-busy zero lt = absurd (omega arith)
+    some-busy (suc n) lt = by-eq i n
+        (λ e. ap (λ x. x && idleBelow (w .state) n) (subst (λ j. isIdle (slot w j .call .kind) ≡ false) e busy))
+        (λ other. ap (λ x. isIdle (slot w n .call .kind) && x) (some-busy n (omega arith)) ∙ not-both (isIdle (slot w n .call .kind)))

@@ -9,7 +9,8 @@ use Rattle.model.specs.Types.{TooOld, VersionsFull, Added, KeysFull, New
 use Rattle.model.specs.Types.{NodeLength, VersionLength, ProcessCount, EventLimit, NoProcess, BadKey}
 use Rattle.model.specs.Types.{Busy, NoCall, Spent, Corrupt, NoKey, NoVersion}
 use Rattle.model.specs.State.{idleProcess}
-use Rattle.model.specs.History.{startPut, startGet, step, look}
+use Rattle.model.specs.History.{step, look}
+use Rattle.model.proofs.Bench.{startPut, startGet}
 use Rattle.model.proofs.Bench.{Case, call, status, inspect, tally, tables, word-of, process, observer, ledger}
 use Rattle.model.proofs.Bench.{started, stands, inspected, words, keeps, lists, start, said, lent, fit}
 use Rattle.model.proofs.Bench.{with-tally, case, alike-in-half, steps, put, get, times, side-by-side, done, on, wait, shows}

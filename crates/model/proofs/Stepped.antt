@@ -1,25 +1,26 @@
 -- A step keeps the invariant of a run: it is refused as the observer expects, or its move is quiet, takes effect as the
 -- map's put, or ends the call with what the map answers.
 use Prim.Native.Nat.{ℕ, suc, _+_, _≤_, _<_}
-use mathlib.Core.Bool.{_&&_}
+use mathlib.Core.Bool.{not, _&&_}
 use mathlib.Core.List.{List, [], _∷_, _++_}
 use mathlib.Core.Logic.{_≢_, _⊎_, inl, inr}
 use mathlib.Core.Path.{_≡_, refl, sym, ap, _∙_, subst}
 use native.Mathlib.Omega.{arith}
-use lib.Dec.{eqb, ltb, leb, nleb→lt}
+use lib.Dec.{T, eqb, ltb, leb, nleb→lt}
 use lib.ListN.{length, getD, set, length-set, length-append}
 use lib.Seq.{getD-set-same, getD-set-other}
 use Rattle.model.specs.Types.{Idle, Put, Get, Answer, Call, Cursor, Process, Version, Permit, Granted, Denied, Move, Refuse, Wait, Go, Note, Commit, End}
 use Rattle.model.specs.Choice.{if_then_else_}
 use Rattle.model.specs.Layout.{Memory, limits}
-use Rattle.model.specs.Map.{Map, versionsOf, held, putBy, putIn, PutResult, Reply, getFrom}
+use Rattle.model.specs.Map.{Map, putIn, PutResult, Reply, getFrom, applied, Applied}
 use Rattle.model.specs.Map as Seq
-use Rattle.model.specs.Numbers.{placeOf, noVersion, versionWith}
-use Rattle.model.specs.State.{idleProcess, noProcess, isIdle, withEvent}
+use Rattle.model.specs.Numbers.{placeOf}
+use Rattle.model.specs.State.{idleProcess, noProcess, withEvent}
 use Rattle.model.specs.Phases.{Moved, moved, ownVersion, turnOf}
-use Rattle.model.specs.Calls.{Store, stepPermit, processAfter, outcomeOf, counted, tallyAfter, evented, storeAfter, stepBy, stepOf}
-use Rattle.model.specs.History.{Action, step, Operation, Invoked, noInvoked, Completed, History, tickOf, stepDue, isGranted, unless, invokedAt, sawStep}
-use Rattle.model.specs.Linearizability.{fedBy, replyBy, replyOf, All, answeredBy}
+use Rattle.model.specs.Calls.{callFor, Store, stepPermit, processAfter, outcomeOf, counted, tallyAfter, evented, storeAfter, stepBy, stepOf}
+use Rattle.model.specs.Requests.{Operation, put, get, kindOf}
+use Rattle.model.specs.History.{Action, step, Invoked, Pending, no-call, has-call, pendingAt, isFree, due, Completed, finished}
+use Rattle.model.specs.Linearizability.{countedAt}
 use Rattle.model.proofs.Laws.{place-below}
 use Rattle.model.proofs.Tests.{if-by, if-lt, if-eq, by-eq, is-true, eq→eqb}
 use Rattle.model.proofs.Invariant.{Climbs}
@@ -27,9 +28,10 @@ use Rattle.model.proofs.Frame.{fits-kept}
 use Rattle.model.proofs.Step.{Does, Good}
 use Rattle.model.proofs.Turn.{turn-good}
 use Rattle.model.proofs.Locks.{Locked, step-locked}
-use Rattle.model.proofs.Effects.{Took, nothing, took, fed, played, nothing≢took, Entered, entered-grow, entered-now}
-use Rattle.model.proofs.Live.{memory, slot, Core, invokedOf, Hist, Live, event-hist, done-grow, slot-same, core-lawful, not-idle, one-busy, none-busy, busy-set, invoked-same, invoked-other}
-use Rattle.model.proofs.Started.{due-denied, no-fault, granted≢denied}
+use Rattle.model.proofs.Effects.{Took, nothing, took, fed, played, nothing≢took, grows-on, Entered, entered-grow, entered-now}
+use Rattle.model.proofs.Live.{memory, slot, Core, keptOf, Hist, LiveFrom, event-hist, done-grow, slot-same, core-lawful, one-busy, none-busy, busy-set, kept-kind, kind≢idle, idle-free, has-injective, pending-same, pending-other}
+use Rattle.model.proofs.Started.{due-denied, no-fault, granted≢denied, kept-start}
+use Rattle.model.proofs.Seen.{Seen, isGranted, sawStep, seenDue, tickOf, unless}
 
 -- ---- the tally
 
@@ -43,114 +45,101 @@ length-tally t (Commit c a) = refl
 length-tally t (End a v e) = if-by (λ (u : List ℕ). length u ≡ length t) (ltb (getD t (placeOf a) 0) (limits .count))
     (λ h. length-set t (placeOf a) (getD t (placeOf a) 0 + 1)) (λ h. refl)
 
-answered-few : (a : Answer) (l : List Completed) → answeredBy a l ≤ length l
-unfolding answeredBy
+answered-few : (a : Answer) (l : List Completed) → countedAt (placeOf a) l ≤ length l
+unfolding countedAt
 answered-few a [] = omega arith
 answered-few a (d ∷ l) =
     let h = answered-few a l in
-    if-by (λ (k : ℕ). k + answeredBy a l ≤ suc (length l)) (eqb (placeOf (d .told .answer)) (placeOf a)) (λ t. omega arith) (λ t. omega arith)
+    if-by (λ (k : ℕ). k + countedAt (placeOf a) l ≤ suc (length l)) (eqb (placeOf (d .told .answer)) (placeOf a)) (λ t. omega arith) (λ t. omega arith)
 
 -- the tally after a finished call: far fewer calls were finished than a count holds
 tally-counts : (t : List ℕ) (ds : List Completed) (d : Completed) (a : Answer) → length t ≡ 7 → length ds < (limits .count)
-    → getD t (placeOf (d .told .answer)) 0 ≡ answeredBy (d .told .answer) ds → getD t (placeOf a) 0 ≡ answeredBy a ds
-    → getD (counted t (d .told .answer)) (placeOf a) 0 ≡ answeredBy a (d ∷ ds)
-unfolding counted answeredBy
+    → getD t (placeOf (d .told .answer)) 0 ≡ countedAt (placeOf (d .told .answer)) ds → getD t (placeOf a) 0 ≡ countedAt (placeOf a) ds
+    → getD (counted t (d .told .answer)) (placeOf a) 0 ≡ countedAt (placeOf a) (d ∷ ds)
+unfolding counted countedAt
 tally-counts t ds d a l7 few e e′ =
     let p = placeOf (d .told .answer) in
-    if-lt (λ (u : List ℕ). getD u (placeOf a) 0 ≡ (if eqb p (placeOf a) then 1 else 0) + answeredBy a ds) (getD t p 0) (limits .count)
-    (λ h. if-eq (λ (n : ℕ). getD (set t p (getD t p 0 + 1)) (placeOf a) 0 ≡ n + answeredBy a ds) p (placeOf a)
+    if-lt (λ (u : List ℕ). getD u (placeOf a) 0 ≡ (if eqb p (placeOf a) then 1 else 0) + countedAt (placeOf a) ds) (getD t p 0) (limits .count)
+    (λ h. if-eq (λ (n : ℕ). getD (set t p (getD t p 0 + 1)) (placeOf a) 0 ≡ n + countedAt (placeOf a) ds) p (placeOf a)
     (λ q. rw (← q) (getD-set-same t p (getD t p 0 + 1) 0 (omega (arith, place-below (d .told .answer))) ∙ omega (arith, ap (λ (z : ℕ). getD t z 0) q)))
     (λ q. getD-set-other t p (placeOf a) (getD t p 0 + 1) 0 (λ z. q (sym z)) ∙ omega arith))
     (λ h. absurd (omega (arith, answered-few (d .told .answer) ds)))
 
--- ---- a put's answer goes with its own version
+-- ---- what the map makes of the call that a process keeps
 
-Own : Version → PutResult → Type 0
-Own v r = versionWith (r .answer) v noVersion ≡ v
+pub put-applied : (K W : ℕ) (b b′ : Map) (op : Operation) (n : ℕ) (a : Answer) → let call = callFor op n in
+    call .kind ≡ Put → putIn K W b (call .key) (ownVersion call) ≡ Seq.answered b′ a
+    → applied K W b op ≡ record { map = b′; reply = record { answer = a; version = ownVersion call } }
+unfolding callFor applied
+put-applied K W b b′ (put k v t draw) n a ek e =
+    ap (λ (r : PutResult). record { map = r .map; reply = record { answer = r .answer; version = record { value = v; timestamp = t } } }) e
+put-applied K W b b′ (get k) n a ek e = let z : _≡_ {A = ℕ} 0 1 = cc in absurd (omega arith)
 
-put-version : (K W : ℕ) (b : Map) (k : ℕ) (v : Version) (vs : List Version) → Own v (putBy K W b k v vs)
-unfolding putBy Own
-put-version K W b k v [] =
-    if-by (Own v) (leb K (length b)) (λ t. refl) λ t. if-by (Own v) (leb W (held b)) (λ u. refl) (λ u. refl)
-put-version K W b k v (l ∷ ls) =
-    if-by (Own v) (ltb (v .timestamp) (l .timestamp)) (λ t. refl) λ t. if-by (Own v) (leb W (held b)) (λ u. refl) (λ u. refl)
-
--- what the map replies to a put that it answers with a
-pub put-reply : (K W : ℕ) (b b′ : Map) (op : Operation) (a : Answer) → op .kind ≡ Put
-    → putIn K W b (op .key) (record { value = op .value; timestamp = op .timestamp }) ≡ Seq.answered b′ a
-    → replyOf K W b op ≡ record { answer = a; version = record { value = op .value; timestamp = op .timestamp } }
-unfolding replyBy putIn Own
-put-reply K W b b′ op a ek e =
-    let own : Version = record { value = op .value; timestamp = op .timestamp } in
-    let v : versionWith a own noVersion ≡ own = subst (λ (r : PutResult). Own own r) e (put-version K W b (op .key) own (versionsOf b (op .key))) in
-    rw (ek, e, v)
-
-pub put-fed : (K W : ℕ) (b b′ : Map) (op : Operation) (a : Answer) → op .kind ≡ Put
-    → putIn K W b (op .key) (record { value = op .value; timestamp = op .timestamp }) ≡ Seq.answered b′ a
-    → b′ ≡ fedBy (op .kind) K W b op
-unfolding fedBy
-put-fed K W b b′ op a ek e = subst (λ k. b′ ≡ fedBy k K W b op) (sym ek) (sym (ap (λ (r : PutResult). r .map) e))
-
-get-reply : (K W : ℕ) (b : Map) (op : Operation) (r : Reply) → op .kind ≡ Get → getFrom b (op .key) ≡ r → replyOf K W b op ≡ r
-unfolding replyBy
-get-reply K W b op r ek e = rw (ek, e)
-
-get-fed : (K W : ℕ) (b : Map) (op : Operation) → op .kind ≡ Get → b ≡ fedBy (op .kind) K W b op
-unfolding fedBy
-get-fed K W b op ek = rw ek
+get-applied : (K W : ℕ) (b : Map) (op : Operation) (n : ℕ) (r : Reply) → let call = callFor op n in
+    call .kind ≡ Get → getFrom b (call .key) ≡ r → applied K W b op ≡ record { map = b; reply = r }
+unfolding callFor applied
+get-applied K W b (put k v t draw) n r ek e = let z : _≡_ {A = ℕ} 0 1 = cc in absurd (omega arith)
+get-applied K W b (get k) n r ek e = ap (λ (z : Reply). record { map = b; reply = z }) e
 
 -- ---- what a step needs: an event is due
 
-record Allowed (h : History) (i : ℕ) : Type 0 where
+record Allowed (h : Seen) (i : ℕ) : Type 0 where
   pub below : i < h .processes
-  pub busy : h .invoked i .operation .kind ≢ Idle
+  pub call : Invoked
+  pub has : h .pending i ≡ has-call call
   pub time : length (h .log) < h .limit
 
-allowed : (h : History) (i : ℕ) → stepDue h i ≡ Granted → Allowed h i
-unfolding stepDue
+allowed : (h : Seen) (i : ℕ) → seenDue h (step i) ≡ Granted → Allowed h i
+unfolding due
 allowed h i =
     let P : Permit → Type 0 = λ d. d ≡ Granted → Allowed h i in
-    let idle = isIdle (h .invoked i .operation .kind) in
     if-by P (leb (h .processes) i) (λ t e. absurd (granted≢denied e)) λ t1.
-    if-by P idle (λ t e. absurd (granted≢denied e)) λ t2.
-    if-by P (leb (h .limit) (length (h .log))) (λ t e. absurd (granted≢denied e)) λ t3 e. record {
-      below = nleb→lt (h .processes) i t1;
-      busy = not-idle (h .invoked i .operation .kind) t2;
-      time = nleb→lt (h .limit) (length (h .log)) t3;
-    }
+    if-by P (isFree (h .pending i)) (λ t e. absurd (granted≢denied e)) λ t2.
+    if-by P (leb (h .limit) (length (h .log))) (λ t e. absurd (granted≢denied e)) λ t3 e. go t1 t3 (h .pending i) refl t2
+  where
+    go : T (not (leb (h .processes) i)) → T (not (leb (h .limit) (length (h .log)))) → (c : Pending) → h .pending i ≡ c → T (not (isFree c)) → Allowed h i
+    go t1 t3 no-call e t = absurd t
+    go t1 t3 (has-call c) e t =
+        record { below = nleb→lt (h .processes) i t1; call = c; has = e; time = nleb→lt (h .limit) (length (h .log)) t3 }
+
+no≢has : {c : Invoked} → no-call ≡ has-call c → ⊥
+no≢has e = let z : _≡_ {A = ℕ} 0 1 = cc in omega arith
 
 entered-cast : {K W : ℕ} {log : List Action} {eff : List Took} {i : ℕ} {c : Invoked} {t t′ : ℕ} {r r′ : Reply} → t ≡ t′ → r ≡ r′
     → Entered K W log eff i c t r → Entered K W log eff i c t′ r′
 entered-cast {K} {W} {log} {eff} {i} {c} {t} {t′} {r} {r′} p q h =
     subst (λ z. Entered K W log eff i c z r′) p (subst (λ z. Entered K W log eff i c t z) q h)
 
-module _ {K W : ℕ} {w : Store} {h : History} (l : Live K W w h) (i : ℕ) (granted : stepDue h i ≡ Granted) where
+module _ {from : List Took} {K W : ℕ} {w : Store} {h : Seen} (l : LiveFrom from K W w h) (i : ℕ) (granted : seenDue h (step i) ≡ Granted) where
   abbrev pr : Process
   pr = slot w i
 
   abbrev tick : ℕ
   tick = w .state .events + 1
 
-  abbrev c₀ : Invoked
-  c₀ = h .invoked i
-
   abbrev log′ : List Action
   log′ = h .log ++ (step i ∷ [])
 
   abbrev faults : ℕ
-  faults = h .faults + unless (isGranted (stepDue h i) && eqb tick (tickOf h))
+  faults = h .faults + unless (isGranted (seenDue h (step i)) && eqb tick (tickOf h))
 
   al : Allowed h i
   al = allowed h i granted
 
-  same : c₀ ≡ invokedOf pr
-  same = l .hist .track i .same
+  abbrev c₀ : Invoked
+  c₀ = al .call
 
-  kind-is : c₀ .operation .kind ≡ pr .call .kind
-  kind-is = ap (λ (c : Invoked). c .operation .kind) same
+  same : pr .call ≡ callFor (c₀ .operation) (c₀ .start)
+  same = l .hist .track i .same ∙ ap keptOf (al .has)
+
+  kind-is : pr .call .kind ≡ kindOf (c₀ .operation)
+  kind-is = ap (λ (c : Call). c .kind) same ∙ kept-kind (c₀ .operation) (c₀ .start)
+
+  start-is : pr .call .start ≡ c₀ .start
+  start-is = ap (λ (c : Call). c .start) same ∙ kept-start (c₀ .operation) (c₀ .start)
 
   busy : pr .call .kind ≢ Idle
-  busy e = al .busy (kind-is ∙ e)
+  busy e = kind≢idle (c₀ .operation) (sym kind-is ∙ e)
 
   below : i < w .state .processes
   below = omega (arith, al .below, l .hist .processes-is)
@@ -168,20 +157,32 @@ module _ {K W : ℕ} {w : Store} {h : History} (l : Live K W w h) (i : ℕ) (gra
   tick-is = omega (arith, l .hist .ticks)
 
   no-faults : faults ≡ 0
-  no-faults = omega (arith, l .hist .faults, no-fault (stepDue h i) tick (tickOf h) granted tick-is)
+  no-faults = omega (arith, l .hist .faults, no-fault (seenDue h (step i)) tick (tickOf h) granted tick-is)
 
   begun : c₀ .start ≤ length (h .log)
-  begun = subst (λ (c : Invoked). c .start ≤ length (h .log)) (sym same) (l .hist .track i .begun)
+  begun = omega (arith, l .hist .track i .begun, start-is)
 
-  -- the map that memory holds answers what the effects' map answers
-  reply-of : (r : Reply) → replyOf K W (l .b) (invokedOf pr .operation) ≡ r
-      → replyOf K W (played K W [] (l .eff)) (c₀ .operation) ≡ r
-  reply-of r e = subst (λ (b : Map). replyOf K W b (c₀ .operation) ≡ r) (l .hist .book-is)
-      (subst (λ (c : Invoked). replyOf K W (l .b) (c .operation) ≡ r) (sym same) e)
+  -- the map that memory holds makes of the call what the effects' map makes of it
+  puts : (b′ : Map) (a : Answer) → pr .call .kind ≡ Put → putIn K W (l .b) (pr .call .key) (ownVersion (pr .call)) ≡ Seq.answered b′ a
+      → applied K W (l .b) (c₀ .operation) ≡ record { map = b′; reply = record { answer = a; version = ownVersion (pr .call) } }
+  puts b′ a = subst (λ (c : Call). c .kind ≡ Put → putIn K W (l .b) (c .key) (ownVersion c) ≡ Seq.answered b′ a
+      → applied K W (l .b) (c₀ .operation) ≡ record { map = b′; reply = record { answer = a; version = ownVersion c } }) (sym same)
+      (put-applied K W (l .b) b′ (c₀ .operation) (c₀ .start) a)
 
-  fed-of : (b′ : Map) → b′ ≡ fedBy (pr .call .kind) K W (l .b) (invokedOf pr .operation)
-      → b′ ≡ fedBy (c₀ .operation .kind) K W (l .b) (c₀ .operation)
-  fed-of b′ e = subst (λ (c : Invoked). b′ ≡ fedBy (c .operation .kind) K W (l .b) (c .operation)) (sym same) e
+  gets : (r : Reply) → pr .call .kind ≡ Get → getFrom (l .b) (pr .call .key) ≡ r
+      → applied K W (l .b) (c₀ .operation) ≡ record { map = l .b; reply = r }
+  gets r = subst (λ (c : Call). c .kind ≡ Get → getFrom (l .b) (c .key) ≡ r
+      → applied K W (l .b) (c₀ .operation) ≡ record { map = l .b; reply = r }) (sym same)
+      (get-applied K W (l .b) (c₀ .operation) (c₀ .start) r)
+
+  reply-of : {b′ : Map} {r : Reply} → applied K W (l .b) (c₀ .operation) ≡ record { map = b′; reply = r }
+      → applied K W (played K W [] (l .eff)) (c₀ .operation) .reply ≡ r
+  reply-of {b′} {r} e =
+      subst (λ (b : Map). applied K W b (c₀ .operation) .reply ≡ r) (l .hist .book-is) (ap (λ (z : Applied). z .reply) e)
+
+  fed-of : {b′ : Map} {r : Reply} → applied K W (l .b) (c₀ .operation) ≡ record { map = b′; reply = r }
+      → b′ ≡ applied K W (l .b) (c₀ .operation) .map
+  fed-of e = sym (ap (λ (z : Applied). z .map) e)
 
   -- ---- the store
 
@@ -235,7 +236,7 @@ module _ {K W : ℕ} {w : Store} {h : History} (l : Live K W w h) (i : ℕ) (gra
         processes = h .processes;
         limit = h .limit;
         log = log′;
-        invoked = h .invoked;
+        pending = h .pending;
         starts = h .starts;
         completed = h .completed;
         queries = h .queries;
@@ -243,27 +244,26 @@ module _ {K W : ℕ} {w : Store} {h : History} (l : Live K W w h) (i : ℕ) (gra
       }) b′ (l .eff ++ (x ∷ []))
   on-hist x m q b′ nl vl be ec en keep now =
       let k = l .hist in
-      let s = slot-same K W w h (l .b) (l .eff) k (l .core .array) i i8 (step i) x m q (w .tally) (h .invoked) (h .starts) (h .completed) faults b′ in
-      event-hist K W w h (l .b) (l .eff) k (l .core .array) i i8 (step i) x m q (w .tally) (h .invoked) (h .starts) (h .completed) faults b′ (record {
+      let s = slot-same K W w h (l .b) (l .eff) k (l .core .array) i i8 (step i) x m q (w .tally) (h .pending) (h .starts) (h .completed) faults b′ in
+      event-hist K W w h (l .b) (l .eff) k (l .core .array) i i8 (step i) x m q (w .tally) (h .pending) (h .starts) (h .completed) faults b′ (record {
         K-same = nl;
         W-same = vl;
         map-is = be;
         others = λ j ne. refl;
         track = record {
-          same = same ∙ ap (λ (z : Call). record {
-            operation = record { kind = z .kind; key = z .key; value = z .value; timestamp = z .timestamp };
-            start = z .start;
-          }) (sym ec);
+          same = ec ∙ k .track i .same;
           resting = λ e. absurd (busy (ap (λ (z : Call). z .kind) (sym ec) ∙ e));
           begun = omega (arith, k .track i .begun, ap (λ (z : Call). z .start) ec, length-append (h .log) (step i ∷ []));
-          entered = en;
+          entered = λ d e ne.
+              subst (λ (c : Invoked). Entered K W log′ (l .eff ++ (x ∷ [])) i c (q .effect .tick) (record { answer = q .effect .answer; version = ownVersion (q .call) }))
+              (has-injective (sym (al .has) ∙ e)) (en ne);
         };
         done =
-            done-grow K W w h (l .b) (l .eff) k (l .core .array) i i8 (step i) x m q (w .tally) (h .invoked) (h .starts) (h .completed) faults b′;
+            done-grow K W w h (l .b) (l .eff) k (l .core .array) i i8 (step i) x m q (w .tally) (h .pending) (h .starts) (h .completed) faults b′;
         kept = λ n j c d. d;
         old = λ n c e f. inr (e, ap (λ (z : Process). z .effect .tick) s ∙ keep n f);
         now = λ n j c e f. let o = now n j c e f in inr (
-          ap (h .invoked) (o .0) ∙ sym (o .1),
+          ap (h .pending) (o .0) ∙ al .has ∙ ap has-call (sym (o .1)),
           subst (λ z. getD (set (w .state .process) i q) z noProcess .effect .tick ≡ suc n) (sym (o .0)) (ap (λ (z : Process). z .effect .tick) s ∙ o .2),
         );
         tally = k .tally;
@@ -297,28 +297,53 @@ module _ {K W : ℕ} {w : Store} {h : History} (l : Live K W w h) (i : ℕ) (gra
     ended = tickOf h;
   }
 
+  abbrev after-end : Answer → Version → ℕ → Seen
+  after-end a v e = record {
+    processes = h .processes;
+    limit = h .limit;
+    log = log′;
+    pending = pendingAt (h .pending) i no-call;
+    starts = h .starts;
+    completed = ending a v e ∷ h .completed;
+    queries = h .queries;
+    faults = faults;
+  }
+
+  saw-end : (a : Answer) (v : Version) (e : ℕ) → after-end a v e ≡ sawStep h i (outcomeOf tick (pr .call) (End a v e))
+  unfolding sawStep outcomeOf
+  saw-end a v e = ap (λ (c : Pending). record {
+    processes = h .processes;
+    limit = h .limit;
+    log = log′;
+    pending = pendingAt (h .pending) i no-call;
+    starts = h .starts;
+    completed = finished c i (ending a v e .told) (tickOf h) (h .completed);
+    queries = h .queries;
+    faults = faults;
+  }) (sym (al .has))
+
   end-hist : (x : Took) (m : Memory) (b′ : Map) (a : Answer) (v : Version) (e : ℕ)
       → length (m .nodes) ≡ length (w .nodes) → length (m .versions) ≡ length (w .versions) → b′ ≡ fed K W (l .b) x
       → e ≤ tick → Entered K W log′ (l .eff ++ (x ∷ [])) i c₀ e (record { answer = a; version = v })
       → ((n : ℕ) → pr .effect .tick ≡ suc n → e ≡ suc n)
       → ((n j : ℕ) (c : Invoked) → n ≡ length (h .log) → x ≡ took j c → (j ≡ i) × (c ≡ c₀) × (e ≡ suc n))
-      → Hist K W (evented w i (End a v e) m) (sawStep h i (outcomeOf tick (pr .call) (End a v e))) b′ (l .eff ++ (x ∷ []))
-  unfolding sawStep outcomeOf processAfter tallyAfter
+      → Hist K W (evented w i (End a v e) m) (after-end a v e) b′ (l .eff ++ (x ∷ []))
+  unfolding processAfter tallyAfter
   end-hist x m b′ a v e nl vl be in-time en keep now =
       let k = l .hist in
       let d₀ = ending a v e in
-      let idle = invokedAt (h .invoked) i noInvoked in
+      let idle = pendingAt (h .pending) i no-call in
       event-hist K W w h (l .b) (l .eff) k (l .core .array) i i8 (step i) x m idleProcess (counted (w .tally) a) idle (h .starts) (d₀ ∷ h .completed) faults b′ (record {
         K-same = nl;
         W-same = vl;
         map-is = be;
-        others = λ j ne. invoked-other (h .invoked) i noInvoked j ne;
+        others = λ j ne. pending-other (h .pending) i no-call j ne;
         track =
-            record { same = invoked-same (h .invoked) i noInvoked; resting = λ z. refl; begun = omega arith; entered = λ ne. absurd (ne refl) };
+            record { same = ap keptOf (sym (pending-same (h .pending) i no-call)); resting = λ z. refl; begun = omega arith; entered = λ d e ne. absurd (ne refl) };
         done = (
           record {
-            kind = sym kind-is;
-            start = ap (λ (c : Invoked). c .start) (sym same);
+            kind = kind-is;
+            start = start-is;
             finish = tick-is;
             ended = omega (arith, length-append (h .log) (step i ∷ []));
             in-time = omega (arith, tick-is);
@@ -327,7 +352,7 @@ module _ {K W : ℕ} {w : Store} {h : History} (l : Live K W w h) (i : ℕ) (gra
           done-grow K W w h (l .b) (l .eff) k (l .core .array) i i8 (step i) x m idleProcess (counted (w .tally) a) idle (h .starts) (d₀ ∷ h .completed) faults b′,
         );
         kept = λ n j c d. inr d;
-        old = λ n c q f. inl (inl (refl, q, keep n f));
+        old = λ n c q f. inl (inl (refl, has-injective (sym (al .has) ∙ q), keep n f));
         now = λ n j c q f. let o = now n j c q f in inl (inl (sym (o .0), sym (o .1), o .2));
         tally = λ q. tally-counts (w .tally) (h .completed) d₀ q (l .core .tally)
             (omega (arith, k .counted, k .few, k .ticks, l .core .events, l .core .limit .1)) (k .tally a) (k .tally q);
@@ -340,14 +365,10 @@ module _ {K W : ℕ} {w : Store} {h : History} (l : Live K W w h) (i : ℕ) (gra
         );
         few = omega (arith, k .few);
         no-faults = no-faults;
-        past = λ j ks. by-eq j i
-            (λ q. absurd (ks (ap (λ (y : Invoked). y .operation .kind) (ap idle q ∙ invoked-same (h .invoked) i noInvoked))))
-            (λ ne. let q = invoked-other (h .invoked) i noInvoked j ne in (
-              (λ z. absurd (ne (sym z))),
-              subst (λ (y : Invoked). All (λ (d : Completed). d .process ≡ j → d .ended < y .start) (h .completed)) (sym q)
-                  (k .past j (λ z. ks (ap (λ (y : Invoked). y .operation .kind) q ∙ z))),
-            ));
-        pairs = (k .past i (λ q. al .busy q), k .pairs);
+        past = λ j c ks. by-eq j i
+            (λ q. absurd (no≢has (sym (pending-same (h .pending) i no-call) ∙ ap idle (sym q) ∙ ks)))
+            (λ ne. ((λ z. absurd (ne (sym z))), k .past j c (sym (pending-other (h .pending) i no-call j ne) ∙ ks)));
+        pairs = (k .past i c₀ (al .has), k .pairs);
       })
 
   -- ---- by the move
@@ -366,7 +387,7 @@ module _ {K W : ℕ} {w : Store} {h : History} (l : Live K W w h) (i : ℕ) (gra
         processes = h .processes;
         limit = h .limit;
         log = log′;
-        invoked = h .invoked;
+        pending = h .pending;
         starts = h .starts;
         completed = h .completed;
         queries = h .queries;
@@ -374,7 +395,7 @@ module _ {K W : ℕ} {w : Store} {h : History} (l : Live K W w h) (i : ℕ) (gra
       }) b′ (l .eff ++ (nothing ∷ []))
   unfolding fed
   quiet-hist m q b′ nl vl be ec ee = on-hist nothing m q b′ nl vl be ec
-      (λ ne. rw (ec, ee) (entered-grow K W (h .log) (l .eff) (step i) nothing even (l .hist .track i .entered (rw ee at ne))))
+      (λ ne. rw (ec, ee) (entered-grow K W (h .log) (l .eff) (step i) nothing even (l .hist .track i .entered c₀ (al .has) (rw ee at ne))))
       (λ n e. rw ee e) (λ n j c e f. absurd (nothing≢took f))
 
   commit-hist : (m : Memory) (c : Cursor) (a : Answer) (b′ : Map) → length (m .nodes) ≡ length (w .nodes)
@@ -385,10 +406,10 @@ module _ {K W : ℕ} {w : Store} {h : History} (l : Live K W w h) (i : ℕ) (gra
   commit-hist m c a b′ nl vl d =
       let put : putIn K W (l .b) (pr .call .key) (ownVersion (pr .call)) ≡ Seq.answered b′ a = rw (l .hist .K-is, l .hist .W-is) at (d .2) in
       on-hist (took i c₀) m (record { call = pr .call; cursor = c; effect = record { answer = a; tick = tick }; preds = pr .preds }) b′ nl vl
-      (fed-of b′ (put-fed K W (l .b) b′ (invokedOf pr .operation) a (d .0) put)) refl
+      (fed-of (puts b′ a (d .0) put)) refl
       (λ ne. entered-cast (sym tick-is) refl (entered-now K W (h .log) (l .eff) (step i) (took i c₀) even i c₀
       (record { answer = a; version = ownVersion (pr .call) }) refl refl begun
-      (reply-of _ (put-reply K W (l .b) b′ (invokedOf pr .operation) a (d .0) put))))
+      (reply-of (puts b′ a (d .0) put))))
       (λ n e. absurd (omega (arith, d .1))) (now-took tick refl)
 
   -- a get, or a put whose effect is behind it
@@ -396,25 +417,27 @@ module _ {K W : ℕ} {w : Store} {h : History} (l : Live K W w h) (i : ℕ) (gra
       → Locked (memory w) i tick pr (moved m (End a v e))
       → ((pr .call .kind ≡ Get) × (pr .effect .tick ≡ 0) × (e ≡ tick) × (getFrom (l .b) (pr .call .key) ≡ record { answer = a; version = v }))
       ⊎ ((pr .call .kind ≡ Put) × (pr .effect .tick ≢ 0) × (e ≡ pr .effect .tick) × (a ≡ pr .effect .answer) × (v ≡ ownVersion (pr .call)))
-      → Live K W (evented w i (End a v e) m) (sawStep h i (outcomeOf tick (pr .call) (End a v e)))
+      → LiveFrom from K W (evented w i (End a v e) m) (after-end a v e)
   unfolding fed
   end-live m a v e G lk (inl d) = record {
     g = G .g′;
     b = G .b′;
     eff = l .eff ++ (took i c₀ ∷ []);
+    grows = grows-on from (l .eff) (took i c₀) (l .grows);
     core = step-core (End a v e) m G lk;
     hist = end-hist (took i c₀) m (G .b′) a v e (G .node-words) (G .version-words)
-        (G .does .0 ∙ fed-of (l .b) (get-fed K W (l .b) (invokedOf pr .operation) (d .0))) (omega (arith, d .2))
+        (G .does .0 ∙ fed-of (gets (record { answer = a; version = v }) (d .0) (d .3))) (omega (arith, d .2))
         (entered-cast (sym (d .2 ∙ tick-is)) refl (entered-now K W (h .log) (l .eff) (step i) (took i c₀) even i c₀ (record { answer = a; version = v }) refl refl begun
-        (reply-of _ (get-reply K W (l .b) (invokedOf pr .operation) (record { answer = a; version = v }) (d .0) (d .3)))))
+        (reply-of (gets (record { answer = a; version = v }) (d .0) (d .3)))))
         (λ n q. absurd (omega (arith, d .1))) (now-took e (d .2));
   }
   end-live m a v e G lk (inr d) =
-      let en = l .hist .track i .entered (d .1) in
+      let en = l .hist .track i .entered c₀ (al .has) (d .1) in
       record {
         g = G .g′;
         b = G .b′;
         eff = l .eff ++ (nothing ∷ []);
+        grows = grows-on from (l .eff) (nothing) (l .grows);
         core = step-core (End a v e) m G lk;
         hist =
             end-hist nothing m (G .b′) a v e (G .node-words) (G .version-words) (G .does .0) (omega (arith, d .2, en .tick-is, en .within, even, tick-is))
@@ -423,13 +446,14 @@ module _ {K W : ℕ} {w : Store} {h : History} (l : Live K W w h) (i : ℕ) (gra
       }
 
   move-live : (v : Move) (m : Memory) → Good (memory w) (l .g) i pr tick (l .b) v m → Locked (memory w) i tick pr (moved m v)
-      → Live K W (storeAfter w i v m) (sawStep h i (outcomeOf tick (pr .call) v))
+      → LiveFrom from K W (storeAfter w i v m) (sawStep h i (outcomeOf tick (pr .call) v))
   unfolding processAfter tallyAfter outcomeOf sawStep
   move-live Refuse m G lk = absurd (G .does)
   move-live Wait m G lk = record {
     g = G .g′;
     b = G .b′;
     eff = l .eff ++ (nothing ∷ []);
+    grows = grows-on from (l .eff) (nothing) (l .grows);
     core = step-core Wait m G lk;
     hist = quiet-hist m pr (G .b′) (G .node-words) (G .version-words) (G .does) refl refl;
   }
@@ -437,6 +461,7 @@ module _ {K W : ℕ} {w : Store} {h : History} (l : Live K W w h) (i : ℕ) (gra
     g = G .g′;
     b = G .b′;
     eff = l .eff ++ (nothing ∷ []);
+    grows = grows-on from (l .eff) (nothing) (l .grows);
     core = step-core (Go c) m G lk;
     hist = quiet-hist m (processAfter tick pr (Go c)) (G .b′) (G .node-words) (G .version-words) (G .does .0) refl refl;
   }
@@ -444,6 +469,7 @@ module _ {K W : ℕ} {w : Store} {h : History} (l : Live K W w h) (i : ℕ) (gra
     g = G .g′;
     b = G .b′;
     eff = l .eff ++ (nothing ∷ []);
+    grows = grows-on from (l .eff) (nothing) (l .grows);
     core = step-core (Note c) m G lk;
     hist = quiet-hist m (processAfter tick pr (Note c)) (G .b′) (G .node-words) (G .version-words) (G .does .0) refl refl;
   }
@@ -451,12 +477,14 @@ module _ {K W : ℕ} {w : Store} {h : History} (l : Live K W w h) (i : ℕ) (gra
     g = G .g′;
     b = G .b′;
     eff = l .eff ++ (took i c₀ ∷ []);
+    grows = grows-on from (l .eff) (took i c₀) (l .grows);
     core = step-core (Commit c a) m G lk;
     hist = commit-hist m c a (G .b′) (G .node-words) (G .version-words) (G .does);
   }
-  move-live (End a v e) m G lk = end-live m a v e G lk (G .does .1)
+  move-live (End a v e) m G lk =
+      subst (λ (s : Seen). LiveFrom from K W (evented w i (End a v e) m) s) (saw-end a v e) (end-live m a v e G lk (G .does .1))
 
-  pub granted-live : Live K W (storeAfter w i (turnOf (i + 1) tick pr (memory w) .move) (turnOf (i + 1) tick pr (memory w) .memory))
+  pub granted-live : LiveFrom from K W (storeAfter w i (turnOf (i + 1) tick pr (memory w) .move) (turnOf (i + 1) tick pr (memory w) .memory))
       (sawStep h i (outcomeOf tick (pr .call) (turnOf (i + 1) tick pr (memory w) .move)))
   granted-live =
       let k = l .core in
@@ -470,26 +498,27 @@ module _ {K W : ℕ} {w : Store} {h : History} (l : Live K W w h) (i : ℕ) (gra
 
 -- ---- any step
 
-pub step-live : {K W : ℕ} {w : Store} {h : History} → Live K W w h → (i : ℕ)
-    → Live K W (stepOf w i .store) (sawStep h i (stepOf w i .outcome))
+pub step-live : {from : List Took} {K W : ℕ} {w : Store} {h : Seen} → LiveFrom from K W w h → (i : ℕ)
+    → LiveFrom from K W (stepOf w i .store) (sawStep h i (stepOf w i .outcome))
 unfolding stepOf
-step-live {K} {W} {w} {h} l i = rw due (go (stepDue h i) refl)
+step-live {from} {K} {W} {w} {h} l i = rw due (go (seenDue h (step i)) refl)
   where
     r : Moved
     r = turnOf (i + 1) (w .state .events + 1) (slot w i) (memory w)
 
-    due : stepPermit w i ≡ stepDue h i
+    due : stepPermit w i ≡ seenDue h (step i)
     due =
         let k = l .hist in
-        unfold stepPermit stepDue in (rw (
+        unfold stepPermit due in (rw (
           core-lawful (l .core),
           is-true (eqb (length (w .tally)) (limits .answers)) (eq→eqb (length (w .tally)) (limits .answers) (l .core .tally)),
           k .processes-is,
           k .limit-is,
           k .ticks,
-          ap (λ (c : Invoked). c .operation .kind) (k .track i .same),
+          k .track i .same,
+          idle-free (h .pending i),
         ) refl)
 
-    go : (d : Permit) → stepDue h i ≡ d → Live K W (stepBy d w i r .store) (sawStep h i (stepBy d w i r .outcome))
-    go (Denied n) e = unfold stepBy sawStep in (due-denied (stepDue h i) n e l)
+    go : (d : Permit) → seenDue h (step i) ≡ d → LiveFrom from K W (stepBy d w i r .store) (sawStep h i (stepBy d w i r .outcome))
+    go (Denied n) e = unfold stepBy sawStep in (due-denied (seenDue h (step i)) n e l)
     go Granted e = unfold stepBy in (granted-live l i e)

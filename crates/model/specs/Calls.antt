@@ -10,6 +10,7 @@ use Rattle.model.specs.Types.{Kind, Idle, Put, Get, Walk, Answer, None, 
 use Rattle.model.specs.Choice.{if_then_else_}
 use Rattle.model.specs.Layout.{Memory, topLevel, levels, limits, key, newest, prev, versionAt, freshNodes}
 use Rattle.model.specs.Numbers.{placeOf}
+use Rattle.model.specs.Requests.{Fitting, Operation, put, get, keyOf}
 use Rattle.model.specs.State.{idleProcess, processAt, freshState, closedState, withEvent, memoryOf, within, lawfulNodes, lawfulVersions, lawfulKey, lawfulState, lawfulStore, isIdle}
 use Rattle.model.specs.Phases.{Moved, usedVersion, turnOf}
 
@@ -20,13 +21,17 @@ denyIf b r rest = if b then Denied r else rest
 -- ---- open
 
 -- "The fitter, at open, in order: 1 node table length; 2 reading table length; 3 stations; 4 event limit."
-unfoldable pub openPermit : (nodes versions : List ℕ) (processes limit : ℕ) → Permit
-openPermit nodes versions processes limit =
-    denyIf (not (lawfulNodes (length nodes))) NodeLength
-    (denyIf (not (lawfulVersions (length versions))) VersionLength
-    (denyIf (not (within 1 (limits .processes) processes)) ProcessCount
-    (denyIf (not (within 1 (limits .events) limit)) EventLimit
+unfoldable pub openDue : Fitting → Permit
+openDue f =
+    denyIf (not (lawfulNodes (f .nodes))) NodeLength
+    (denyIf (not (lawfulVersions (f .versions))) VersionLength
+    (denyIf (not (within 1 (limits .processes) (f .processes))) ProcessCount
+    (denyIf (not (within 1 (limits .events) (f .limit))) EventLimit
     Granted)))
+
+abbrev pub openPermit : (nodes versions : List ℕ) (processes limit : ℕ) → Permit
+openPermit nodes versions processes limit =
+    openDue (record { nodes = length nodes; versions = length versions; processes = processes; limit = limit })
 
 -- what an opening leaves: outcome and state, and both tables
 pub record Opened : Type 0 where
@@ -91,14 +96,13 @@ unfoldable pub startBy : Permit → State → ℕ → Call → StartResult
 startBy (Denied r) s i call = record { outcome = Starting.Refused r; state = s }
 startBy Granted s i call = record { outcome = Starting.Started (s .events + 1); state = withEvent s i (s .counts) (begun call) }
 
--- "A put has tray number, value, stamp and a 16-bit draw."
-unfoldable pub startPutOf : State → (nodes versions : List ℕ) → (process key value timestamp draw : ℕ) → StartResult
-startPutOf s nodes versions i k v t draw = startBy (startPermit s nodes versions i k) s i
-    (record { kind = Put; key = k; value = v; timestamp = t; top = topOf draw; start = s .events + 1 })
+-- the call that a process keeps: of a draw the top level that it gives
+unfoldable pub callFor : Operation → (start : ℕ) → Call
+callFor (put k v t draw) tick = record { kind = Put; key = k; value = v; timestamp = t; top = topOf draw; start = tick }
+callFor (get k) tick = record { kind = Get; key = k; value = 0; timestamp = 0; top = 0; start = tick }
 
-unfoldable pub startGetOf : State → (nodes versions : List ℕ) → (process key : ℕ) → StartResult
-startGetOf s nodes versions i k = startBy (startPermit s nodes versions i k) s i
-    (record { kind = Get; key = k; value = 0; timestamp = 0; top = 0; start = s .events + 1 })
+unfoldable pub startOf : State → (nodes versions : List ℕ) → (process : ℕ) → Operation → StartResult
+startOf s nodes versions i op = startBy (startPermit s nodes versions i (keyOf op)) s i (callFor op (s .events + 1))
 
 -- ---- step
 

@@ -1,39 +1,113 @@
--- What an observer of calls and outcomes writes down. He sees nothing of the store inside: from an accepted opening on he
--- keeps the events, each process's call as its accepted start gave it, the finished calls, the looks, and a count of
--- faults: outcomes that document 01 rules out, by what he has seen so far.
-use Prim.Native.Nat.{ℕ, suc, _+_}
-use mathlib.Core.Bool.{Bool, true, false, not, _&&_}
+-- What is seen of a list of calls: each action with its outcome, and nothing of the store inside. From these alone are read the
+-- events, the call that each process has, the finished calls, the looks, and which refusal was due.
+use Prim.Native.Nat.{ℕ, suc}
+use mathlib.Core.Bool.{Bool, true, false, not}
 use mathlib.Core.List.{List, [], _∷_, _++_}
 use lib.Dec.{eqb, leb}
-use lib.ListN.{length, replicate}
-use Rattle.model.specs.Types.{Kind, Idle, Put, Get, Refusal, NoProcess, BadKey, Busy, NoCall, Spent, State, Permit, Granted, Denied, Finish, Starting, Stepping, Looking}
+use lib.ListN.{length}
+use Rattle.model.specs.Types.{NoProcess, BadKey, Busy, NoCall, Spent, Permit, Granted, Denied, Finish, Starting, Stepping, Looking}
 use Rattle.model.specs.Choice.{if_then_else_}
-use Rattle.model.specs.Layout.{limits}
-use Rattle.model.specs.Numbers.{numberOf}
-use Rattle.model.specs.State.{lawfulKey, isIdle}
-use Rattle.model.specs.Calls.{denyIf, Opened, startPutOf, startGetOf, Store, stepOf, lookOf}
+use Rattle.model.specs.Requests.{Fitting, Operation, keyOf}
+use Rattle.model.specs.State.{lawfulKey}
+use Rattle.model.specs.Calls.{denyIf}
+use Rattle.model.specs.System.{After, System}
 
 -- the members of "the lists of demand 3"
 pub data Action : Type 0 where
-  startPut : (process key value timestamp draw : ℕ) → Action
-  startGet : (process key : ℕ) → Action
+  start : (process : ℕ) → Operation → Action
   step : (process : ℕ) → Action
   look : (key back : ℕ) → Action
 
--- "kind and arguments" of a call
-pub record Operation : Type 0 where
-  pub kind : Kind
-  pub key : ℕ
-  pub value : ℕ
-  pub timestamp : ℕ
+-- an action with its outcome
+pub data Observation : Type 0 where
+  started : (process : ℕ) → Operation → Starting → Observation
+  stepped : (process : ℕ) → Stepping → Observation
+  looked : (key back : ℕ) → Looking → Observation
 
--- "A call's kind and start tick are those of its accepted start"
+abbrev pub actionOf : Observation → Action
+actionOf (started i op o) = start i op
+actionOf (stepped i o) = step i
+actionOf (looked k back o) = look k back
+
+-- the opening's numbers, and what was seen since, newest first
+pub record History : Type 0 where
+  pub processes : ℕ
+  pub limit : ℕ
+  pub entries : List Observation
+
+-- ---- events
+
+-- the refusal that an outcome tells, if any
+abbrev pub refusalIn : Observation → Permit
+refusalIn (started i op (Starting.Refused r)) = Denied r
+refusalIn (started i op (Starting.Started t)) = Granted
+refusalIn (stepped i (Stepping.Refused r)) = Denied r
+refusalIn (stepped i (Stepping.Moved t)) = Granted
+refusalIn (stepped i (Stepping.Waited t)) = Granted
+refusalIn (stepped i (Stepping.Finished f)) = Granted
+refusalIn (looked k back (Looking.Refused r)) = Denied r
+refusalIn (looked k back (Looking.Shown v)) = Granted
+
+abbrev pub accepted : Permit → Bool
+accepted Granted = true
+accepted (Denied r) = false
+
+-- "Every accepted start and every step not refused is one event"; a look "is no event"
+abbrev pub isEvent : Observation → Bool
+isEvent (started i op o) = accepted (refusalIn (started i op o))
+isEvent (stepped i o) = accepted (refusalIn (stepped i o))
+isEvent (looked k back o) = false
+
+-- the events, oldest first: that of tick t stands at t - 1
+unfoldable pub logOf : List Observation → List Action
+logOf [] = []
+logOf (e ∷ es) = if isEvent e then logOf es ++ (actionOf e ∷ []) else logOf es
+
+abbrev pub eventsIn : List Observation → ℕ
+eventsIn es = length (logOf es)
+
+-- of an event after these: "its tick is the count of events so far, itself included"
+abbrev pub tickAfter : List Observation → ℕ
+tickAfter es = suc (eventsIn es)
+
+-- ---- calls
+
+-- a call as its accepted start gave it, and the tick of that
 pub record Invoked : Type 0 where
   pub operation : Operation
   pub start : ℕ
 
-abbrev pub noInvoked : Invoked
-noInvoked = record { operation = record { kind = Idle; key = 0; value = 0; timestamp = 0 }; start = 0 }
+-- "A station has one call at most."
+pub data Pending : Type 0 where
+  no-call : Pending
+  has-call : Invoked → Pending
+
+unfoldable pub pendingAt : (ℕ → Pending) → ℕ → Pending → ℕ → Pending
+pendingAt f i c j = if eqb j i then c else f j
+
+-- what each process has after an entry, an event of this tick if it is one
+abbrev pub pendingAfter : Observation → (tick : ℕ) → (ℕ → Pending) → ℕ → Pending
+pendingAfter (started i op (Starting.Refused r)) tick f = f
+pendingAfter (started i op (Starting.Started t)) tick f = pendingAt f i (has-call (record { operation = op; start = tick }))
+pendingAfter (stepped i (Stepping.Refused r)) tick f = f
+pendingAfter (stepped i (Stepping.Moved t)) tick f = f
+pendingAfter (stepped i (Stepping.Waited t)) tick f = f
+pendingAfter (stepped i (Stepping.Finished d)) tick f = pendingAt f i no-call
+pendingAfter (looked k back o) tick f = f
+
+unfoldable pub pendingIn : List Observation → (process : ℕ) → Pending
+pendingIn [] = λ i. no-call
+pendingIn (e ∷ es) = pendingAfter e (tickAfter es) (pendingIn es)
+
+abbrev pub isStart : Observation → Bool
+isStart (started i op o) = accepted (refusalIn (started i op o))
+isStart (stepped i o) = false
+isStart (looked k back o) = false
+
+-- how many starts were accepted
+unfoldable pub startsIn : List Observation → ℕ
+startsIn [] = 0
+startsIn (e ∷ es) = if isStart e then suc (startsIn es) else startsIn es
 
 -- "Finished are the calls whose finishing answer was given within the list": what was told, and the tick of the event
 -- that ended it
@@ -43,146 +117,91 @@ pub record Completed : Type 0 where
   pub told : Finish
   pub ended : ℕ
 
--- a look, and the count of events before it
+abbrev pub finished : Pending → (process : ℕ) → Finish → (tick : ℕ) → List Completed → List Completed
+finished no-call i d tick cs = cs
+finished (has-call c) i d tick cs = record { process = i; invoked = c; told = d; ended = tick } ∷ cs
+
+abbrev pub completedAfter : Observation → (tick : ℕ) → (ℕ → Pending) → List Completed → List Completed
+completedAfter (started i op o) tick f cs = cs
+completedAfter (stepped i (Stepping.Refused r)) tick f cs = cs
+completedAfter (stepped i (Stepping.Moved t)) tick f cs = cs
+completedAfter (stepped i (Stepping.Waited t)) tick f cs = cs
+completedAfter (stepped i (Stepping.Finished d)) tick f cs = finished (f i) i d tick cs
+completedAfter (looked k back o) tick f cs = cs
+
+unfoldable pub completedIn : List Observation → List Completed
+completedIn [] = []
+completedIn (e ∷ es) = completedAfter e (tickAfter es) (pendingIn es) (completedIn es)
+
+-- ---- looks
+
+-- a look, and the tick after which it meets the map
 pub record Query : Type 0 where
   pub key : ℕ
   pub back : ℕ
-  pub events : ℕ
+  pub tick : ℕ
   pub outcome : Looking
 
-pub record History : Type 0 where
-  pub processes : ℕ  -- as the opening gave them
-  pub limit : ℕ
-  pub log : List Action  -- the events: that of tick t stands at t - 1
-  pub invoked : ℕ → Invoked  -- the call of each process
-  pub starts : ℕ  -- accepted starts
-  pub completed : List Completed
-  pub queries : List Query
-  pub faults : ℕ
+abbrev pub queriesAfter : Observation → (tick : ℕ) → List Query → List Query
+queriesAfter (started i op o) tick qs = qs
+queriesAfter (stepped i o) tick qs = qs
+queriesAfter (looked k back o) tick qs = record { key = k; back = back; tick = tick; outcome = o } ∷ qs
 
-abbrev pub historyOf : (processes limit : ℕ) → List Action → (ℕ → Invoked) → (starts : ℕ) → List Completed → List Query → (faults : ℕ) → History
-historyOf processes limit log invoked starts completed queries faults = record {
-  processes = processes;
-  limit = limit;
-  log = log;
-  invoked = invoked;
-  starts = starts;
-  completed = completed;
-  queries = queries;
-  faults = faults;
-}
+unfoldable pub queriesIn : List Observation → List Query
+queriesIn [] = []
+queriesIn (e ∷ es) = queriesAfter e (eventsIn es) (queriesIn es)
 
-abbrev pub emptyHistory : (processes limit : ℕ) → History
-emptyHistory processes limit = historyOf processes limit [] (λ i. noInvoked) 0 [] [] 0
+-- ---- which refusal is due
 
--- "its tick is the count of events so far, itself included"
-abbrev pub tickOf : History → ℕ
-tickOf h = suc (length (h .log))
+abbrev pub isFree : Pending → Bool
+isFree no-call = true
+isFree (has-call c) = false
 
--- ---- the refusal that is due
-
-unfoldable pub startDue : History → (process key : ℕ) → Permit
-startDue h i k =
-    denyIf (leb (h .processes) i) NoProcess
-    (denyIf (not (lawfulKey k)) BadKey
-    (denyIf (not (isIdle (h .invoked i .operation .kind))) Busy
-    (denyIf (leb (h .limit) (length (h .log))) Spent
+-- "Start: 10, 5, 6, 7, 9. Step: 10, 5, 8, 9, 11. Look: 10, 6, 12, 11, 13": of these, what is due after so many events, with these
+-- calls pending. 10 and 11 never are; 12 and 13 are the map's to say.
+unfoldable pub due : (processes limit events : ℕ) → (ℕ → Pending) → Action → Permit
+due processes limit events pending (start i op) =
+    denyIf (leb processes i) NoProcess
+    (denyIf (not (lawfulKey (keyOf op))) BadKey
+    (denyIf (not (isFree (pending i))) Busy
+    (denyIf (leb limit events) Spent
     Granted)))
-
-unfoldable pub stepDue : History → (process : ℕ) → Permit
-stepDue h i =
-    denyIf (leb (h .processes) i) NoProcess
-    (denyIf (isIdle (h .invoked i .operation .kind)) NoCall
-    (denyIf (leb (h .limit) (length (h .log))) Spent
+due processes limit events pending (step i) =
+    denyIf (leb processes i) NoProcess
+    (denyIf (isFree (pending i)) NoCall
+    (denyIf (leb limit events) Spent
     Granted))
+due processes limit events pending (look k back) = denyIf (not (lawfulKey k)) BadKey Granted
 
-abbrev pub isGranted : Permit → Bool
-isGranted Granted = true
-isGranted (Denied r) = false
+-- what is due of an action after these entries
+abbrev pub dueAfter : (processes limit : ℕ) → List Observation → Action → Permit
+dueAfter processes limit es a = due processes limit (eventsIn es) (pendingIn es) a
 
-abbrev pub isDenied : Permit → Refusal → Bool
-isDenied Granted r = false
-isDenied (Denied d) r = eqb (numberOf d) (numberOf r)
+-- ---- playing a list
 
--- 1 where what was seen is wrong
-abbrev pub unless : Bool → ℕ
-unless right = if right then 0 else 1
-
--- ---- what is written down
-
--- "A refused start or step has no tick and gives the ledger nothing."
-abbrev pub sawRefusal : History → Bool → History
-sawRefusal h right =
-    historyOf (h .processes) (h .limit) (h .log) (h .invoked) (h .starts) (h .completed) (h .queries) (h .faults + unless right)
-
--- an event, that answered this tick
-abbrev pub sawEvent : History → Action → (ℕ → Invoked) → (starts : ℕ) → List Completed → Permit → (tick : ℕ) → History
-sawEvent h a invoked starts completed due tick =
-    historyOf (h .processes) (h .limit) (h .log ++ (a ∷ [])) invoked starts completed (h .queries)
-    (h .faults + unless (isGranted due && eqb tick (tickOf h)))
-
-unfoldable pub invokedAt : (ℕ → Invoked) → ℕ → Invoked → ℕ → Invoked
-invokedAt f i c j = if eqb j i then c else f j
-
-unfoldable pub sawStart : History → Action → (process : ℕ) → Operation → Starting → History
-sawStart h a i op (Starting.Refused r) = sawRefusal h (isDenied (startDue h i (op .key)) r)
-sawStart h a i op (Starting.Started t) =
-    sawEvent h a (invokedAt (h .invoked) i (record { operation = op; start = tickOf h })) (suc (h .starts)) (h .completed)
-    (startDue h i (op .key)) t
-
-unfoldable pub sawStep : History → (process : ℕ) → Stepping → History
-sawStep h i (Stepping.Refused r) = sawRefusal h (isDenied (stepDue h i) r)
-sawStep h i (Stepping.Moved t) = sawEvent h (step i) (h .invoked) (h .starts) (h .completed) (stepDue h i) t
-sawStep h i (Stepping.Waited t) = sawEvent h (step i) (h .invoked) (h .starts) (h .completed) (stepDue h i) t
-sawStep h i (Stepping.Finished f) =
-    sawEvent h (step i) (invokedAt (h .invoked) i noInvoked) (h .starts)
-    (record { process = i; invoked = h .invoked i; told = f; ended = tickOf h } ∷ h .completed) (stepDue h i) (f .finish)
-
-unfoldable pub sawLook : History → (key back : ℕ) → Looking → History
-sawLook h k back o =
-    historyOf (h .processes) (h .limit) (h .log) (h .invoked) (h .starts) (h .completed)
-    (record { key = k; back = back; events = length (h .log); outcome = o } ∷ h .queries) (h .faults)
-
--- ---- the list
-
--- the store, and what the observer has written down
-pub record Run : Type 0 where
-  pub store : Store
+-- the store, and what was seen of it
+pub record Run (S : System) : Type 0 where
+  pub store : S .Carrier
   pub history : History
 
-abbrev pub putOperation : (key value timestamp : ℕ) → Operation
-putOperation k v t = record { kind = Put; key = k; value = v; timestamp = t }
+abbrev pub act : (S : System) → S .Carrier → Action → After Observation (S .Carrier)
+act S w (start i op) = let o = S .start w i op in record { outcome = started i op (o .outcome); store = o .store }
+act S w (step i) = let o = S .step w i in record { outcome = stepped i (o .outcome); store = o .store }
+act S w (look k back) = record { outcome = looked k back (S .look w k back); store = w }
 
-abbrev pub getOperation : (key : ℕ) → Operation
-getOperation k = record { kind = Get; key = k; value = 0; timestamp = 0 }
+abbrev pub noted : History → Observation → History
+noted h e = record { processes = h .processes; limit = h .limit; entries = e ∷ h .entries }
 
-abbrev pub withState : Store → State → Store
-withState w s = record { state = s; nodes = w .nodes; versions = w .versions; tally = w .tally }
+unfoldable pub perform : {S : System} → Run S → Action → Run S
+perform {S} r a = let o = act S (r .store) a in record { store = o .store; history = noted (r .history) (o .outcome) }
 
-unfoldable pub perform : Run → Action → Run
-perform r (startPut i k v t draw) =
-    let w = r .store in
-    let o = startPutOf (w .state) (w .nodes) (w .versions) i k v t draw in
-    record { store = withState w (o .state); history = sawStart (r .history) (startPut i k v t draw) i (putOperation k v t) (o .outcome) }
-perform r (startGet i k) =
-    let w = r .store in
-    let o = startGetOf (w .state) (w .nodes) (w .versions) i k in
-    record { store = withState w (o .state); history = sawStart (r .history) (startGet i k) i (getOperation k) (o .outcome) }
-perform r (step i) =
-    let o = stepOf (r .store) i in
-    record { store = o .store; history = sawStep (r .history) i (o .outcome) }
-perform r (look k back) =
-    let w = r .store in
-    record { store = w; history = sawLook (r .history) k back (lookOf (w .state) (w .nodes) (w .versions) k back) }
-
-unfoldable pub performAll : Run → List Action → Run
+unfoldable pub performAll : {S : System} → Run S → List Action → Run S
 performAll r [] = r
 performAll r (a ∷ rest) = performAll (perform r a) rest
 
--- "A fresh store is the state and tables that any accepted opening leaves. The tally of zeroes has as many words as
--- there are counts."
-abbrev pub begin : Opened → (processes limit : ℕ) → Run
-begin o processes limit = record {
-  store = record { state = o .result .state; nodes = o .nodes; versions = o .versions; tally = replicate (limits .answers) 0 };
-  history = emptyHistory processes limit;
-}
+abbrev pub emptyHistory : Fitting → History
+emptyHistory f = record { processes = f .processes; limit = f .limit; entries = [] }
+
+-- a store as its opening left it
+abbrev pub begin : (S : System) → S .Setup → S .Carrier → Run S
+begin S s w = record { store = w; history = emptyHistory (S .fitting s) }

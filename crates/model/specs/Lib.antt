@@ -2,6 +2,7 @@ pub mod Types
 pub mod Choice
 pub mod Layout
 pub mod Numbers
+pub mod Requests
 pub mod Map
 pub mod State
 pub mod Phases
@@ -9,5 +10,7 @@ pub mod Calls
 pub mod Inspection
 pub mod Soundness
 pub mod Touched
+pub mod System
 pub mod History
+pub mod ByValue
 pub mod Linearizability

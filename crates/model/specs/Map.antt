@@ -6,6 +6,7 @@ use lib.ListN.{length}
 use Rattle.model.specs.Types.{Answer, TooOld, VersionsFull, Added, KeysFull, New, Found, None, Version, Looking, NoKey, NoVersion}
 use Rattle.model.specs.Choice.{if_then_else_}
 use Rattle.model.specs.Numbers.{noVersion}
+use Rattle.model.specs.Requests.{Operation, put, get}
 
 -- "Its state: for each tray a list of (value, stamp), newest first"
 pub record Entry : Type 0 where
@@ -70,6 +71,19 @@ getBy (latest ∷ older) = record { answer = Found; version = latest }
 
 unfoldable pub getFrom : Map → ℕ → Reply
 getFrom b k = getBy (versionsOf b k)
+
+-- what an operation makes of the map, and its reply
+pub record Applied : Type 0 where
+  pub map : Map
+  pub reply : Reply
+
+-- "With a put's answer go its own value and stamp, with none 0 and 0."
+unfoldable pub applied : (K W : ℕ) → Map → Operation → Applied
+applied K W b (put k v t draw) =
+    let own : Version = record { value = v; timestamp = t } in
+    let o = putIn K W b k own in
+    record { map = o .map; reply = record { answer = o .answer; version = own } }
+applied K W b (get k) = record { map = b; reply = getFrom b k }
 
 -- "it answers value and stamp of the reading asked, 0 back being the newest, or for a lawful tray 12 where there is no
 -- list and 13 where the list is too short"

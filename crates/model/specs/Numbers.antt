@@ -1,5 +1,8 @@
--- Document 01's number of each refusal, place of each answer in the tally, and what goes with an answer.
-use Prim.Native.Nat.{ℕ}
+-- Document 01's number of each refusal, place of each answer in the tally, what such a number means, and what goes with an
+-- answer.
+use Prim.Native.Nat.{ℕ, _-_}
+use mathlib.Core.List.{List, [], _∷_}
+use lib.ListN.{getD}
 use Rattle.model.specs.Types.{Answer, TooOld, VersionsFull, Added, KeysFull, New, Found, None, Refusal, NodeLength, VersionLength, ProcessCount, EventLimit, NoProcess, BadKey, Busy, NoCall, Spent, Corrupt, Damaged, NoKey, NoVersion, NotOpen, UnknownCommand, CutShort, Version}
 
 unfoldable pub numberOf : Refusal → ℕ
@@ -29,6 +32,22 @@ placeOf KeysFull = 3
 placeOf New = 4
 placeOf Found = 5
 placeOf None = 6
+
+-- What a number means: document 01's refusals, from 1, and answers, from 0, in its order. No other number
+-- is told.
+abbrev pub refusals : List Refusal
+refusals =
+    NodeLength ∷ VersionLength ∷ ProcessCount ∷ EventLimit ∷ NoProcess ∷ BadKey ∷ Busy ∷ NoCall ∷ Spent ∷ Corrupt
+    ∷ Damaged ∷ NoKey ∷ NoVersion ∷ NotOpen ∷ UnknownCommand ∷ CutShort ∷ []
+
+abbrev pub refusalOf : ℕ → Refusal
+refusalOf n = getD refusals (n - 1) CutShort
+
+abbrev pub answers : List Answer
+answers = TooOld ∷ VersionsFull ∷ Added ∷ KeysFull ∷ New ∷ Found ∷ None ∷ []
+
+abbrev pub answerOf : ℕ → Answer
+answerOf n = getD answers n None
 
 abbrev pub noVersion : Version
 noVersion = record { value = 0; timestamp = 0 }

@@ -16,7 +16,7 @@ use Rattle.model.specs.declared.types.Refusal.the-variants.{Corrupt, NoProcess,
 use Rattle.model.specs.declared.types.State.{State}
 use Rattle.model.specs.Layout.{limits, nodeWords, versionWords, capacity}
 use Rattle.model.specs.State.{processAt, isIdle, within, lawfulKey, lawfulNodes, lawfulVersions, lawfulLength, lawfulState, lawfulStore}
-use Rattle.model.specs.Calls.{denyIf, noSuch, spent, openPermit, startPermit, Store, stepPermit, statusPermit}
+use Rattle.model.specs.Calls.{denyIf, noSuch, spent, openDue, openPermit, startPermit, Store, stepPermit, statusPermit}
 use Rattle.model.specs.Inspection.{idleBelow}
 use Rattle.model.proofs.Laws.{granted-iff}
 use Rattle.model.proofs.Tests.{leb-iff, eqb-iff}
@@ -104,7 +104,7 @@ pub record MayOpen (nodes versions : List ℕ) : Type 0 where
 
 pub may-open : (nodes versions : List ℕ) (processes limit : ℕ) {p : Permit} → p ≡ openPermit nodes versions processes limit
     → p ≡ Granted → MayOpen nodes versions
-unfolding openPermit lawfulLength
+unfolding openDue lawfulLength
 may-open nodes versions processes limit e g =
     let f = simp granted-iff at (sym e ∙ g) in
     let n = simp (and-eq-true-iff, leb-iff, eqb-iff) at (not-false (lawfulNodes (length nodes)) (f .0)) in

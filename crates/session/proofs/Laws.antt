@@ -10,7 +10,7 @@ use lib.ListN.{length, take, replicate, length-take, length-replicate}
 use borrow.Author.Tests.{lt-leb, leb-true, leb-false}
 use Rattle.model.specs.Layout.{nodeWords, versionWords, limits}
 use Rattle.model.specs.State.{lawfulLength}
-use Rattle.model.specs.Calls.{openPermit}
+use Rattle.model.specs.Calls.{openDue, openPermit}
 use Rattle.session.specs.Session.{tableWords, buffers}
 
 and-false : (b c : Bool) → (b && false) && c ≡ false
@@ -35,7 +35,7 @@ module _ (nodes versions : List ℕ) (enough : buffers .nodes ≤ length nodes) 
   pub asked-permit : (k v p limit : ℕ)
       → openPermit (take (tableWords nodeWords k) nodes) (take (tableWords versionWords v) versions) p limit
       ≡ openPermit (replicate (tableWords nodeWords k) 0) (replicate (tableWords versionWords v) 0) p limit
-  unfolding openPermit
+  unfolding openDue
   asked-permit k v p limit =
       simp (
         length-take,

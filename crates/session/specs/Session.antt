@@ -9,7 +9,8 @@ use Rattle.model.specs.declared.types.State.{State}
 use Rattle.model.specs.declared.types.StartResult.{StartResult}
 use Rattle.model.specs.Choice.{if_then_else_}
 use Rattle.model.specs.Layout.{nodeWords, versionWords, limits}
-use Rattle.model.specs.Calls.{Opened, openOf, startPutOf, startGetOf, Store, Stepped, stepOf, lookOf}
+use Rattle.model.specs.Calls.{Opened, openOf, startOf, Store, Stepped, stepOf, lookOf}
+use Rattle.model.specs.Requests.{put, get}
 use Rattle.model.specs.Inspection.{inspectOf}
 use Rattle.command.specs.declared.types.Command.{Command}
 use Rattle.command.specs.declared.types.Command.the-variants.{Open, Put, Get, Step, Look, Inspect}
@@ -104,8 +105,8 @@ steppedOn w i r = record {
 
 unfoldable pub callOn : Session → Command → Done
 callOn w (Open k v p limit) = openOn w k v p limit
-callOn w (Put i k v t draw) = startedOn w i (startPutOf (w .state) (lent w .nodes) (lent w .versions) i k v t draw)
-callOn w (Get i k) = startedOn w i (startGetOf (w .state) (lent w .nodes) (lent w .versions) i k)
+callOn w (Put i k v t draw) = startedOn w i (startOf (w .state) (lent w .nodes) (lent w .versions) i (put k v t draw))
+callOn w (Get i k) = startedOn w i (startOf (w .state) (lent w .nodes) (lent w .versions) i (get k))
 callOn w (Step i) = steppedOn w i (stepOf (lent w) i)
 callOn w (Look k n) = record { line = lookLine k n (lookOf (w .state) (lent w .nodes) (lent w .versions) k n); session = w }
 callOn w Inspect = record { line = inspectLine (inspectOf (w .state) (lent w .nodes) (lent w .versions)); session = w }

@@ -1,7 +1,8 @@
 // The store's calls that a sheet makes, each on the tables in its buffers.
 ghost use mathlib.Core.Path.{_≡_};
 ghost use lib.ListN.{take};
-ghost use Rattle.model.specs.Calls.{startPutOf, startGetOf, lookOf};
+ghost use Rattle.model.specs.Requests.{put, get};
+ghost use Rattle.model.specs.Calls.{startOf, lookOf};
 ghost use Rattle.model.specs.Inspection.{inspectOf};
 ghost use Rattle.command.specs.declared.types.Command.the-variants.{Open, Step};
 ghost use Rattle.session.specs.Session.{session, done, started, callOn};
@@ -67,7 +68,7 @@ pub fn put_on(
     nodes: &[u32],
     versions: &[u32],
 ) -> Performed
-    ensures { λ r. ⌜ r ≡ started process (startPutOf s (take (s .lengths .nodes) (now (nodes .entry))) (take (s .lengths .versions) (now (versions .entry))) process key value timestamp draw) ⌝ }
+    ensures { λ r. ⌜ r ≡ started process (startOf s (take (s .lengths .nodes) (now (nodes .entry))) (take (s .lengths .versions) (now (versions .entry))) process (put key value timestamp draw)) ⌝ }
 {
     let n = held(nodes, s.lengths.nodes);
     let m = held(versions, s.lengths.versions);
@@ -85,7 +86,7 @@ pub fn put_on(
 }
 
 pub fn get_on(s: State, process: u32, key: u64, nodes: &[u32], versions: &[u32]) -> Performed
-    ensures { λ r. ⌜ r ≡ started process (startGetOf s (take (s .lengths .nodes) (now (nodes .entry))) (take (s .lengths .versions) (now (versions .entry))) process key) ⌝ }
+    ensures { λ r. ⌜ r ≡ started process (startOf s (take (s .lengths .nodes) (now (nodes .entry))) (take (s .lengths .versions) (now (versions .entry))) process (get key)) ⌝ }
 {
     let n = held(nodes, s.lengths.nodes);
     let m = held(versions, s.lengths.versions);

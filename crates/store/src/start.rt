@@ -1,7 +1,8 @@
 // Starts of a put and of a get.
 ghost use mathlib.Core.Path.{_≡_};
 ghost use Prim.Native.Nat.{_+_};
-ghost use Rattle.model.specs.Calls.{topOf, begun, startPermit, startBy, startPutOf, startGetOf};
+ghost use Rattle.model.specs.Requests.{put, get};
+ghost use Rattle.model.specs.Calls.{topOf, begun, startPermit, startBy, startOf};
 use crate::slot::slot;
 use model::types::Answer;
 use model::types::Call;
@@ -106,7 +107,7 @@ pub fn start_put(
     timestamp: u32,
     draw: u16,
 ) -> StartResult
-    ensures { λ r. ⌜ r ≡ startPutOf s (now (nodes .entry)) (now (versions .entry)) process key value timestamp draw ⌝ }
+    ensures { λ r. ⌜ r ≡ startOf s (now (nodes .entry)) (now (versions .entry)) process (put key value timestamp draw) ⌝ }
 {
     let top = top_of(draw);
     start(
@@ -123,7 +124,7 @@ pub fn start_put(
 }
 
 pub fn start_get(s: State, nodes: &[u32], versions: &[u32], process: u32, key: u64) -> StartResult
-    ensures { λ r. ⌜ r ≡ startGetOf s (now (nodes .entry)) (now (versions .entry)) process key ⌝ }
+    ensures { λ r. ⌜ r ≡ startOf s (now (nodes .entry)) (now (versions .entry)) process (get key) ⌝ }
 {
     start(s, nodes, versions, process, Kind::Get, key, 0, 0, 0)
 }

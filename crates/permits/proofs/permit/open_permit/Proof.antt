@@ -1,6 +1,6 @@
 -- The refusals are built from the last to the first, as in the definition.
 use borrow.Author.Needs.{needs}
-use Rattle.model.specs.Calls.{openPermit}
+use Rattle.model.specs.Calls.{openDue}
 use Rattle.permits.proofs.permit.open_permit.Statement.{statement}
 use Rattle.permits.proofs.permit.open_permit.Tie as tie
 
@@ -29,7 +29,7 @@ deny-unless-requires-4 : tie.Need-deny-unless-requires-4
 deny-unless-requires-4 c κs = search needs
 
 returns : tie.Need-returns
-unfolding openPermit
+unfolding openDue
 returns c =
     simp (
       c .deny-unless4 .ensures,

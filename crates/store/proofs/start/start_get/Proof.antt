@@ -1,5 +1,5 @@
 -- `start` with a get's operands.
-use Rattle.model.specs.Calls.{startGetOf}
+use Rattle.model.specs.Calls.{callFor, startOf}
 use borrow.Author.Needs.{needs}
 use Rattle.store.proofs.start.start_get.Statement.{statement}
 use Rattle.store.proofs.start.start_get.Tie as tie
@@ -8,7 +8,7 @@ start-requires : tie.Need-start-requires
 start-requires c κs = search needs
 
 returns : tie.Need-returns
-unfolding startGetOf
+unfolding startOf callFor
 returns c = simp (c .start .ensures)
 
 pub start-get-spec : {M : Type 1} → statement M
