@@ -7,8 +7,6 @@ use native.Mathlib.Omega.{arith}
 use lib.Dec.{eqb, ltb}
 use lib.ListN.{length, getD, take, drop, length-append}
 use lib.Seq.{take-at, drop-at}
-use Rattle.model.specs.declared.types.Answer.{Answer}
-use Rattle.model.specs.declared.types.Answer.the-variants.{TooOld, VersionsFull, Added, KeysFull, New, Found, None}
 use Rattle.model.specs.declared.types.Kind.{Kind}
 use Rattle.model.specs.declared.types.Kind.the-variants.{Idle, Put, Get}
 use Rattle.model.specs.declared.types.Phase.{Phase}
@@ -19,15 +17,16 @@ use Rattle.model.specs.Choice.{if_then_else_}
 use Rattle.model.specs.Layout.{levels, limits, wordSize, lowHalf}
 use Rattle.model.specs.Numbers.{placeOf}
 use Rattle.model.specs.State.{noProcess}
-use Rattle.words.specs.Numbers.{kindNumber, kindOf, phaseNumber, phaseOf, answerOf}
+use Rattle.words.specs.Numbers.{kindNumber, kindOf, phaseNumber, phaseOf}
 use Rattle.words.specs.Layout.{sizes, processWords, allWords, stateWords, processFrom, allFrom, stateFrom, knownProcess, allKnown, isState}
 use Rattle.permits.specs.Header.{bit}
+use Rattle.model.proofs.Laws.{answer-at, place-below}
 use Rattle.model.proofs.Words.{joined-halves}
 use borrow.Author.Tests.{lt-ltb}
 use Rattle.words.proofs.Applied.{spelt}
 use Rattle.words.proofs.Laws.{heads}
 
-kind-from : (k : Kind) → (kindOf (kindNumber k) ≡ k) × (ltb (kindNumber k) 3 ≡ true)
+pub kind-from : (k : Kind) → (kindOf (kindNumber k) ≡ k) × (ltb (kindNumber k) 3 ≡ true)
 kind-from Idle = (refl, refl)
 kind-from Put = (refl, refl)
 kind-from Get = (refl, refl)
@@ -42,16 +41,6 @@ phase-from Update = (refl, refl)
 phase-from Make = (refl, refl)
 phase-from Link = (refl, refl)
 phase-from Release = (refl, refl)
-
-answer-from : (a : Answer) → (answerOf (placeOf a) ≡ a) × (ltb (placeOf a) 7 ≡ true)
-unfolding placeOf
-answer-from TooOld = (refl, refl)
-answer-from VersionsFull = (refl, refl)
-answer-from Added = (refl, refl)
-answer-from KeysFull = (refl, refl)
-answer-from New = (refl, refl)
-answer-from Found = (refl, refl)
-answer-from None = (refl, refl)
 
 -- ---- one process: it remembers a node at each level
 
@@ -73,14 +62,14 @@ by-name p h = ap (λ preds. processWords (record { call = p .call; cursor = p .c
 pub process-from : (p : Process) → length (p .preds) ≡ levels → processFrom (processWords p) ≡ p
 process-from p h =
     ap processFrom (sym (by-name p h))
-    ∙ simp (joined-halves (p .call .key), kind-from (p .call .kind) .0, phase-from (p .cursor .phase) .0, answer-from (p .effect .answer) .0, spelt 6 (p .preds) h)
+    ∙ simp (joined-halves (p .call .key), kind-from (p .call .kind) .0, phase-from (p .cursor .phase) .0, answer-at (p .effect .answer), spelt 6 (p .preds) h)
 
 process-known : (p : Process) → knownProcess (processWords p) ≡ true
 process-known p = simp (
   lt-ltb (lowHalf (p .call .key)) wordSize (omega arith),
   kind-from (p .call .kind) .1,
   phase-from (p .cursor .phase) .1,
-  answer-from (p .effect .answer) .1,
+  lt-ltb (placeOf (p .effect .answer)) 7 (place-below (p .effect .answer)),
 )
 
 -- ---- all processes

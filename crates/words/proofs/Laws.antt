@@ -12,10 +12,10 @@ use Rattle.model.specs.declared.types.Counts.{Counts}
 use Rattle.model.specs.declared.types.Process.{Process}
 use Rattle.model.specs.Choice.{if_then_else_}
 use Rattle.model.specs.Layout.{limits, wordSize}
-use Rattle.model.specs.Numbers.{placeOf}
+use Rattle.model.proofs.Laws.{place-at}
 use Rattle.model.proofs.Words.{low-joined, high-joined}
 use Rattle.model.specs.State.{noProcess, processAt, withEvent}
-use Rattle.words.specs.Numbers.{kindNumber, kindOf, phaseNumber, phaseOf, answerOf}
+use Rattle.words.specs.Numbers.{kindNumber, kindOf, phaseNumber, phaseOf}
 use Rattle.words.specs.Layout.{sizes, processWords, allWords, stateWords, processFrom, allFrom, stateFrom, knownProcess, allKnown, isState, startOf, part}
 use Rattle.permits.specs.Header.{bit}
 
@@ -39,10 +39,6 @@ kind-back n h = eqb-true _ _ (below 3 (λ n. eqb (kindNumber (kindOf n)) n) refl
 
 phase-back : (n : ℕ) → n < 9 → phaseNumber (phaseOf n) ≡ n
 phase-back n h = eqb-true _ _ (below 9 (λ n. eqb (phaseNumber (phaseOf n)) n) refl n h)
-
-answer-back : (n : ℕ) → n < 7 → placeOf (answerOf n) ≡ n
-unfolding placeOf
-answer-back n h = eqb-true _ _ (below 7 (λ n. eqb (placeOf (answerOf n)) n) refl n h)
 
 -- ---- one process
 
@@ -75,7 +71,7 @@ process-back w h k =
       high-joined (getD w 1 0) (getD w 2 0) (f .0),
       kind-back (getD w 0 0) (f .1),
       phase-back (getD w 7 0) (f .2),
-      answer-back (getD w 11 0) (f .3),
+      place-at (getD w 11 0) (f .3),
       take-all 6 (drop 13 w) six,
     )
     (sym (heads-are 13 0 w (omega (arith, h))))

@@ -13,11 +13,11 @@ use Rattle.model.specs.declared.types.Effect.{Effect}
 use Rattle.model.specs.declared.types.Process.{Process}
 use Rattle.model.specs.Choice.{if_then_else_}
 use Rattle.model.specs.Layout.{levels, limits, wordSize, lowHalf, highHalf, joined}
-use Rattle.model.specs.Numbers.{placeOf}
+use Rattle.model.specs.Numbers.{placeOf, answers, answerOf}
 use Rattle.model.specs.State.{processAt}
 use Rattle.permits.specs.Header.{headerOf}
 use Rattle.words.specs.declared.types.Sizes.{Sizes}
-use Rattle.words.specs.Numbers.{kindNumber, kinds, kindOf, phaseNumber, phases, phaseOf, answers, answerOf}
+use Rattle.words.specs.Numbers.{kindNumber, kinds, kindOf, phaseNumber, phases, phaseOf}
 
 abbrev pub sizes : Sizes
 sizes = record { version = 2; head = 9; process = 19; state = 161 }

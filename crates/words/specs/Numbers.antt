@@ -1,4 +1,5 @@
--- The number of each kind and phase in a word, and what a word means; an answer's number is its place in the tally.
+-- The number of each kind and phase in a word, and what a word means; an answer's number is its place in the tally, which the
+-- model has.
 use Prim.Native.Nat.{ℕ}
 use mathlib.Core.List.{List, [], _∷_}
 use lib.ListN.{getD}
@@ -6,8 +7,6 @@ use Rattle.model.specs.declared.types.Kind.{Kind}
 use Rattle.model.specs.declared.types.Kind.the-variants.{Idle, Put, Get}
 use Rattle.model.specs.declared.types.Phase.{Phase}
 use Rattle.model.specs.declared.types.Phase.the-variants.{Walk, Read, Seek, Lock, Check, Update, Make, Link, Release}
-use Rattle.model.specs.declared.types.Answer.{Answer}
-use Rattle.model.specs.declared.types.Answer.the-variants.{TooOld, VersionsFull, Added, KeysFull, New, Found, None}
 
 abbrev pub kindNumber : Kind → ℕ
 kindNumber Idle = 0
@@ -38,9 +37,3 @@ phases = Walk ∷ Read ∷ Seek ∷ Lock ∷ Check ∷ Update ∷ Make ∷ Link 
 
 abbrev pub phaseOf : ℕ → Phase
 phaseOf n = getD phases n Release
-
-abbrev pub answers : List Answer
-answers = TooOld ∷ VersionsFull ∷ Added ∷ KeysFull ∷ New ∷ Found ∷ None ∷ []
-
-abbrev pub answerOf : ℕ → Answer
-answerOf n = getD answers n None

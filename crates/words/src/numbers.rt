@@ -1,6 +1,7 @@
 // The number of each kind and phase, and back; an answer's is its place in the tally.
 ghost use mathlib.Core.Path.{_≡_};
-ghost use Rattle.words.specs.Numbers.{kindNumber, kindOf, phaseNumber, phaseOf, answerOf};
+ghost use Rattle.model.specs.Numbers.{answerOf};
+ghost use Rattle.words.specs.Numbers.{kindNumber, kindOf, phaseNumber, phaseOf};
 use model::types::Answer;
 use model::types::Kind;
 use model::types::Phase;

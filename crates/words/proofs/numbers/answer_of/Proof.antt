@@ -4,7 +4,7 @@ use native.Mathlib.Omega.{arith}
 use Rattle.words.proofs.Past.{past}
 use lib.ListN.{List·getD-eq-default}
 use Rattle.model.specs.declared.types.Answer.{Answer}
-use Rattle.words.specs.Numbers.{answers}
+use Rattle.model.specs.Numbers.{answers}
 use borrow.Author.Needs.{needs}
 use Rattle.words.proofs.numbers.answer_of.Statement.{statement}
 use Rattle.words.proofs.numbers.answer_of.Tie as tie
