@@ -3,8 +3,9 @@ use Prim.Native.Nat.{ℕ, suc, _*_}
 use mathlib.Core.List.{List}
 use Rattle.model.specs.Choice.{if_then_else_}
 use Rattle.model.specs.Layout.{nodeWords, versionWords, limits}
+use Rattle.model.specs.Requests.{Operation}
 use Rattle.model.specs.State.{within}
-use Rattle.inplace.specs.Calls.{OpenIn, openIn, StartIn, startPutIn, startGetIn, StepIn, stepIn, lookIn, inspectIn, statusIn}
+use Rattle.inplace.specs.Calls.{OpenIn, openIn, StartIn, startIn, StepIn, stepIn, lookIn, inspectIn, statusIn}
 use Rattle.embed.specs.Told.{Told, openTold, startTold, stepTold, lookTold, inspectTold, statusTold}
 
 -- ---- sizes to lend
@@ -38,11 +39,8 @@ pub record TrayStart : Type 0 where
 unfoldable pub startReply : StartIn → TrayStart
 startReply s = record { told = startTold (s .outcome); words = s .words }
 
-unfoldable pub trayStartPut : (words nodes versions : List ℕ) (station tray value stamp draw : ℕ) → TrayStart
-trayStartPut w nodes versions i k v t draw = startReply (startPutIn w nodes versions i k v t draw)
-
-unfoldable pub trayStartGet : (words nodes versions : List ℕ) (station tray : ℕ) → TrayStart
-trayStartGet w nodes versions i k = startReply (startGetIn w nodes versions i k)
+unfoldable pub trayStart : (words nodes versions : List ℕ) (station : ℕ) → Operation → TrayStart
+trayStart w nodes versions i op = startReply (startIn w nodes versions i op)
 
 pub record TrayStep : Type 0 where
   pub told : Told

@@ -3,8 +3,9 @@
 ghost use mathlib.Core.Path.{_≡_};
 ghost use mathlib.Core.List.{[], _∷_};
 ghost use Rattle.model.specs.Layout.{limits};
+ghost use Rattle.model.specs.Requests.{put, get};
 ghost use Rattle.words.specs.Layout.{sizes};
-ghost use Rattle.embed.specs.Calls.{trayNodeWords, trayReadingWords, trayOpen, trayStartPut, trayStartGet, trayStep, trayLook, trayInspect, trayStanding};
+ghost use Rattle.embed.specs.Calls.{trayNodeWords, trayReadingWords, trayOpen, trayStart, trayStep, trayLook, trayInspect, trayStanding};
 use crate::told::tell_inspect;
 use crate::told::tell_look;
 use crate::told::tell_open;
@@ -93,7 +94,7 @@ pub extern "C" fn tray_start_put(
     draw: u16,
     tick: &mut u32,
 ) -> u32
-    ensures { λ r. ⌜ record { told = record { number = r; answer = now (tick .exit) ∷ [] }; words = now (state .exit) } ≡ trayStartPut (now (state .entry)) (now (nodes .entry)) (now (readings .entry)) station tray value stamp draw ⌝ }
+    ensures { λ r. ⌜ record { told = record { number = r; answer = now (tick .exit) ∷ [] }; words = now (state .exit) } ≡ trayStart (now (state .entry)) (now (nodes .entry)) (now (readings .entry)) station (put tray value stamp draw) ⌝ }
 {
     let outcome = start_put_in(state, nodes, readings, station, tray, value, stamp, draw);
     tell_start(outcome, tick)
@@ -108,7 +109,7 @@ pub extern "C" fn tray_start_get(
     tray: u64,
     tick: &mut u32,
 ) -> u32
-    ensures { λ r. ⌜ record { told = record { number = r; answer = now (tick .exit) ∷ [] }; words = now (state .exit) } ≡ trayStartGet (now (state .entry)) (now (nodes .entry)) (now (readings .entry)) station tray ⌝ }
+    ensures { λ r. ⌜ record { told = record { number = r; answer = now (tick .exit) ∷ [] }; words = now (state .exit) } ≡ trayStart (now (state .entry)) (now (nodes .entry)) (now (readings .entry)) station (get tray) ⌝ }
 {
     let outcome = start_get_in(state, nodes, readings, station, tray);
     tell_start(outcome, tick)

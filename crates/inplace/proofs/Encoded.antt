@@ -36,7 +36,7 @@ stepEncoded r = record {
 }
 
 -- a process keeps a node for each level
-after-remembers : (tick : ℕ) (p : Process) (v : Move) → length (p .preds) ≡ levels → length (processAfter tick p v .preds) ≡ levels
+pub after-remembers : (tick : ℕ) (p : Process) (v : Move) → length (p .preds) ≡ levels → length (processAfter tick p v .preds) ≡ levels
 unfolding processAfter
 after-remembers tick p Refuse h = h
 after-remembers tick p Wait h = h

@@ -1,3 +1,4 @@
 pub mod Left
 pub mod Laws
 pub mod Encoded
+pub mod Lent

@@ -12,8 +12,9 @@ use Rattle.model.specs.declared.types.Inspecting.{Inspecting}
 use Rattle.model.specs.declared.types.Status.{Status}
 use Rattle.model.specs.declared.types.Refusal.the-variants.{Corrupt}
 use Rattle.model.specs.Choice.{if_then_else_}
-use Rattle.model.specs.Calls.{Opened, openOf, startPutOf, startGetOf, Stepped, stepOf, lookOf, statusOf}
+use Rattle.model.specs.Calls.{Opened, openOf, startOf, Stepped, stepOf, lookOf, statusOf}
 use Rattle.model.specs.Inspection.{inspectOf}
+use Rattle.model.specs.Requests.{Operation}
 use Rattle.permits.specs.Header.{storeOf}
 use Rattle.words.specs.Layout.{sizes, stateWords, stateFrom, isState, isStateAt, written}
 
@@ -50,11 +51,8 @@ startEncoded r = record { outcome = r .outcome; words = stateWords (r .state) }
 abbrev pub startUnless : (words : List ℕ) → StartResult → StartIn
 startUnless w r = if isState w then startEncoded r else record { outcome = Starting.Refused Corrupt; words = w }
 
-unfoldable pub startPutIn : (words nodes versions : List ℕ) (process key value timestamp draw : ℕ) → StartIn
-startPutIn w nodes versions i k v t draw = startUnless w (startPutOf (stateFrom w) nodes versions i k v t draw)
-
-unfoldable pub startGetIn : (words nodes versions : List ℕ) (process key : ℕ) → StartIn
-startGetIn w nodes versions i k = startUnless w (startGetOf (stateFrom w) nodes versions i k)
+unfoldable pub startIn : (words nodes versions : List ℕ) (process : ℕ) → Operation → StartIn
+startIn w nodes versions i op = startUnless w (startOf (stateFrom w) nodes versions i op)
 
 -- ---- step: the head and the process that is turned are read and written, and no other word of the state
 

@@ -1,2 +1,3 @@
 pub mod Leave
 pub mod Calls
+pub mod Lent

@@ -1,9 +1,10 @@
 // Starts of a put and of a get: the process's words and the count of events are written.
 ghost use mathlib.Core.Path.{_≡_};
 ghost use Prim.Native.Nat.{_+_};
+ghost use Rattle.model.specs.Requests.{put, get};
 ghost use Rattle.model.specs.Calls.{startPermit, startBy};
 ghost use Rattle.words.specs.Layout.{stateFrom};
-ghost use Rattle.inplace.specs.Calls.{startUnless, startPutIn, startGetIn};
+ghost use Rattle.inplace.specs.Calls.{startUnless, startIn};
 use model::types::Call;
 use model::types::Kind;
 use model::types::Permit;
@@ -71,7 +72,7 @@ pub fn start_put_in(
     timestamp: u32,
     draw: u16,
 ) -> Starting
-    ensures { λ r. ⌜ record { outcome = r; words = now (words .exit) } ≡ startPutIn (now (words .entry)) (now (nodes .entry)) (now (versions .entry)) process key value timestamp draw ⌝ }
+    ensures { λ r. ⌜ record { outcome = r; words = now (words .exit) } ≡ startIn (now (words .entry)) (now (nodes .entry)) (now (versions .entry)) process (put key value timestamp draw) ⌝ }
 {
     let top = top_of(draw);
     start_in(
@@ -94,7 +95,7 @@ pub fn start_get_in(
     process: u32,
     key: u64,
 ) -> Starting
-    ensures { λ r. ⌜ record { outcome = r; words = now (words .exit) } ≡ startGetIn (now (words .entry)) (now (nodes .entry)) (now (versions .entry)) process key ⌝ }
+    ensures { λ r. ⌜ record { outcome = r; words = now (words .exit) } ≡ startIn (now (words .entry)) (now (nodes .entry)) (now (versions .entry)) process (get key) ⌝ }
 {
     start_in(words, nodes, versions, process, Kind::Get, key, 0, 0, 0)
 }

@@ -1,5 +1,5 @@
 -- The start on lent words, its outcome told.
-use Rattle.embed.specs.Calls.{trayStartPut}
+use Rattle.embed.specs.Calls.{trayStart}
 use Rattle.embed.proofs.Laws.{start-told}
 use borrow.Author.Needs.{needs}
 use Rattle.embed.proofs.tray_start_put.Statement.{statement}
@@ -15,7 +15,7 @@ same-length : tie.Need-same-length
 same-length c = search needs
 
 returns : tie.Need-returns
-unfolding trayStartPut
+unfolding trayStart
 returns c = start-told _ _ _ _ (c .tell-start .ensures) (c .before .before .before .before .start-put-in .ensures)
 
 pub tray-start-put-spec : {M : Type 1} → statement M

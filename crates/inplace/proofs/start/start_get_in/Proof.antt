@@ -1,6 +1,6 @@
 -- The start with its call.
-use Rattle.inplace.specs.Calls.{startGetIn}
-use Rattle.model.specs.Calls.{startGetOf}
+use Rattle.model.specs.Calls.{callFor, startOf}
+use Rattle.inplace.specs.Calls.{startIn}
 use borrow.Author.Needs.{needs}
 use Rattle.inplace.proofs.start.start_get_in.Statement.{statement}
 use Rattle.inplace.proofs.start.start_get_in.Tie as tie
@@ -12,7 +12,7 @@ same-length : tie.Need-same-length
 same-length c = search needs
 
 returns : tie.Need-returns
-unfolding startGetIn startGetOf
+unfolding startIn startOf callFor
 returns c = c .before .before .start-in .ensures
 
 pub start-get-in-spec : {M : Type 1} → statement M

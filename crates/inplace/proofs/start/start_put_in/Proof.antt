@@ -1,7 +1,7 @@
 -- The start with its call.
 use mathlib.Core.Path.{_∙_}
-use Rattle.inplace.specs.Calls.{startPutIn}
-use Rattle.model.specs.Calls.{startPutOf}
+use Rattle.model.specs.Calls.{callFor, startOf}
+use Rattle.inplace.specs.Calls.{startIn}
 use borrow.Author.Needs.{needs}
 use Rattle.inplace.proofs.start.start_put_in.Statement.{statement}
 use Rattle.inplace.proofs.start.start_put_in.Tie as tie
@@ -16,7 +16,7 @@ same-length : tie.Need-same-length
 same-length c = search needs
 
 returns : tie.Need-returns
-unfolding startPutIn startPutOf
+unfolding startIn startOf callFor
 returns c = c .before .before .start-in .ensures ∙ simp (c .before .before .before .before .top-of .ensures)
 
 pub start-put-in-spec : {M : Type 1} → statement M
