@@ -1,0 +1,4 @@
+pub mod Lengths
+pub mod Meanings
+pub mod BySheet
+pub mod Sheets

@@ -1,0 +1,64 @@
+-- The store that the commands of a sheet play, as a system: a call is a command, and its outcome is what its line tells. No
+-- command asks for standing, tally and counts: these are read from the session.
+use Prim.Native.Nat.{ℕ}
+use mathlib.Core.Path.{_≡_}
+use lib.ListN.{length}
+use Rattle.model.specs.Layout.{nodeWords, versionWords}
+use Rattle.model.specs.Requests.{Fitting, Operation, put, get}
+use Rattle.model.specs.Calls.{statusOf}
+use Rattle.model.specs.System.{Opens, After, System}
+use Rattle.model.specs.ByValue.{opensBy}
+use Rattle.session.specs.Session.{Session, Done, tableWords, buffers, performOf}
+use Rattle.transcript.specs.Types.{Command, Open, Put, Get, Step, Look, Inspect, Line}
+use Rattle.transcript.specs.Meanings.{openMeant, startMeant, stepMeant, lookMeant, inspectMeant}
+
+-- both buffers and the tally are as long as the program lends them, whatever they hold
+pub record BufferLengths (w : Session) : Type 0 where
+  pub nodes : length (w .nodes) ≡ buffers .nodes
+  pub versions : length (w .versions) ≡ buffers .versions
+  pub tally : length (w .tally) ≡ buffers .tally
+
+-- the operands of an open, and the session that it finds: "Each open replaces the store"
+pub record Asked : Type 0 where
+  pub before : Session
+  pub lengths : BufferLengths before
+  pub keys : ℕ
+  pub versions : ℕ
+  pub processes : ℕ
+  pub limit : ℕ
+
+-- "Open asks for tables of 16 × (K + 1) and 3 × (V + 1) words.": its refusals read the command's numbers, not the buffers
+abbrev pub fittingFor : (keys versions processes limit : ℕ) → Fitting
+fittingFor k v p limit = record {
+  nodes = tableWords nodeWords k;
+  versions = tableWords versionWords v;
+  processes = p;
+  limit = limit;
+}
+
+abbrev pub opensByLine : Done → Opens Session
+opensByLine d = opensBy (openMeant (d .line)) (d .session)
+
+abbrev pub startCommand : (process : ℕ) → Operation → Command
+startCommand i (put k v t draw) = Put i k v t draw
+startCommand i (get k) = Get i k
+
+-- what is read from a command's line, and the session that it leaves
+abbrev pub answered : {O : Type 0} → (meant : Line → O) → Done → After O Session
+answered meant d = record { outcome = meant (d .line); store = d .session }
+
+abbrev pub bySheet : System
+bySheet = record {
+  Carrier = Session;
+  Setup = Asked;
+  fitting = λ s. fittingFor (s .keys) (s .versions) (s .processes) (s .limit);
+  fresh = λ s. opensByLine (performOf (s .before) (Open (s .keys) (s .versions) (s .processes) (s .limit)));
+  start = λ w i op. answered startMeant (performOf w (startCommand i op));
+  step = λ w i. answered stepMeant (performOf w (Step i));
+  look = λ w k back. lookMeant (performOf w (Look k back) .line);
+  status = λ w i. statusOf (w .state) i;
+  inspect = λ w. inspectMeant (performOf w Inspect .line);
+  tally = λ w. w .tally;
+  counts = λ w. w .state .counts;
+  events = λ w. w .state .events;
+}

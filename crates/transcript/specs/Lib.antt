@@ -1,0 +1,4 @@
+pub mod Types
+pub mod Meanings
+pub mod BySheet
+pub mod Sheets
