@@ -5,8 +5,8 @@ use mathlib.Core.Path.{_≡_, ap, _∙_}
 use Rattle.model.specs.declared.types.Opening.{Opening}
 use Rattle.model.specs.declared.types.Starting.{Starting}
 use Rattle.model.specs.declared.types.Stepping.{Stepping}
-use Rattle.inplace.specs.Calls.{OpenIn, StartIn, StepIn}
-use Rattle.embed.specs.Told.{Told, openTold, startTold, stepTold}
+use Rattle.lent.specs.Calls.{OpenIn, StartIn, StepIn}
+use Rattle.replies.specs.Told.{Told, openTold, startTold, stepTold}
 use Rattle.embed.specs.Calls.{openReply, startReply, stepReply}
 
 pub open-told : (n : ℕ) (o : Opening) (w nodes versions : List ℕ) (s : OpenIn) → n ≡ openTold o

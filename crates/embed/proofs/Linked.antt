@@ -26,15 +26,14 @@ use Rattle.model.specs.System.{Opens, refused, opened, After, viewOf}
 use Rattle.model.specs.ByValue.{opensBy}
 use Rattle.model.specs.Linearizability.{Linearizable}
 use Rattle.model.proofs.Laws.{refusal-at, numbered, answer-at}
-use Rattle.model.proofs.Simulated.{Same, SameOpening, Simulates, simulated}
-use Rattle.words.specs.Layout.{stateFrom, isState}
-use Rattle.words.proofs.Back.{kind-from}
-use Rattle.inplace.specs.Calls.{OpenIn, StartIn, StepIn, inspectIn, statusIn}
-use Rattle.inplace.specs.Lent.{Lent, Lending, freshLent, withWords, steppedLent, lentWords}
-use Rattle.inplace.proofs.Lent as lent
-use Rattle.embed.specs.Told.{openTold, startTold, stepTold, lookTold, inspectTold, statusTold}
-use Rattle.embed.specs.Calls.{openReply, trayOpen, startReply, trayStart, stepReply, trayStep}
-use Rattle.embed.specs.Calls.{trayLook, trayInspect, trayStanding}
+use Rattle.linearizability.proofs.Simulated.{Same, SameOpening, Simulates, simulated}
+use Rattle.layout.specs.StateWords.{stateFrom, isState}
+use Rattle.process.proofs.RoundTrip.{kind-from}
+use Rattle.lent.specs.Calls.{OpenIn, StartIn, StepIn, inspectIn, statusIn}
+use Rattle.lent.specs.Lent.{Lent, Lending, freshLent, withWords, steppedLent, lentWords}
+use Rattle.lent.proofs.Lent as lent
+use Rattle.replies.specs.Told.{openTold, startTold, stepTold, lookTold, inspectTold, statusTold}
+use Rattle.embed.specs.Calls.{openReply, trayOpen, startReply, trayStart, stepReply, trayStep, trayLook, trayInspect, trayStanding}
 use Rattle.embed.specs.Linked.{byNumber, openMeant, startMeant, stepMeant, lookMeant, inspectMeant, statusMeant}
 use Rattle.embed.specs.Linked.{openRead, startRead, stepRead, linked, NumbersTell}
 

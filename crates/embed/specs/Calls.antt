@@ -5,8 +5,8 @@ use Rattle.model.specs.Choice.{if_then_else_}
 use Rattle.model.specs.Layout.{nodeWords, versionWords, limits}
 use Rattle.model.specs.Requests.{Operation}
 use Rattle.model.specs.State.{within}
-use Rattle.inplace.specs.Calls.{OpenIn, openIn, StartIn, startIn, StepIn, stepIn, lookIn, inspectIn, statusIn}
-use Rattle.embed.specs.Told.{Told, openTold, startTold, stepTold, lookTold, inspectTold, statusTold}
+use Rattle.lent.specs.Calls.{OpenIn, openIn, StartIn, startIn, StepIn, stepIn, lookIn, inspectIn, statusIn}
+use Rattle.replies.specs.Told.{Told, openTold, startTold, stepTold, lookTold, inspectTold, statusTold}
 
 -- ---- sizes to lend
 

@@ -17,13 +17,12 @@ use Rattle.model.specs.Numbers.{refusalOf, answerOf}
 use Rattle.model.specs.Requests.{Operation}
 use Rattle.model.specs.System.{System}
 use Rattle.model.specs.ByValue.{fittingOf, opensBy}
-use Rattle.words.specs.Numbers.{kindOf}
-use Rattle.words.specs.Layout.{stateFrom}
-use Rattle.inplace.specs.Calls.{OpenIn, StartIn, StepIn}
-use Rattle.inplace.specs.Lent.{Lent, Lending, freshLent, withWords, steppedLent}
-use Rattle.embed.specs.Told.{Told, openTold, startTold, stepTold, lookTold, inspectTold, statusTold}
-use Rattle.embed.specs.Calls.{TrayOpen, trayOpen, TrayStart, trayStart, TrayStep, trayStep}
-use Rattle.embed.specs.Calls.{trayLook, trayInspect, trayStanding}
+use Rattle.process.specs.Numbers.{kindOf}
+use Rattle.layout.specs.StateWords.{stateFrom}
+use Rattle.lent.specs.Calls.{OpenIn, StartIn, StepIn}
+use Rattle.lent.specs.Lent.{Lent, Lending, freshLent, withWords, steppedLent}
+use Rattle.replies.specs.Told.{Told, openTold, startTold, stepTold, lookTold, inspectTold, statusTold}
+use Rattle.embed.specs.Calls.{TrayOpen, trayOpen, TrayStart, trayStart, TrayStep, trayStep, trayLook, trayInspect, trayStanding}
 
 -- ---- what a number and answer words mean: the way back from `openTold` .. `statusTold`
 

@@ -4,26 +4,24 @@ ghost use mathlib.Core.Path.{_≡_};
 ghost use mathlib.Core.List.{[], _∷_};
 ghost use Rattle.model.specs.Layout.{limits};
 ghost use Rattle.model.specs.Requests.{put, get};
-ghost use Rattle.words.specs.Layout.{sizes};
+ghost use Rattle.process.specs.ProcessWords.{sizes};
 ghost use Rattle.embed.specs.Calls.{trayNodeWords, trayReadingWords, trayOpen, trayStart, trayStep, trayLook, trayInspect, trayStanding};
-use crate::told::tell_inspect;
-use crate::told::tell_look;
-use crate::told::tell_open;
-use crate::told::tell_start;
-use crate::told::tell_status;
-use crate::told::tell_step;
-use inplace::open::open_in;
-use inplace::query::inspect_in;
-use inplace::query::look_in;
-use inplace::query::status_in;
-use inplace::start::start_get_in;
-use inplace::start::start_put_in;
-use inplace::step::step_in;
+use lent::open::open_in;
+use lent::query::inspect_in;
+use lent::query::look_in;
+use lent::query::status_in;
+use lent::start::start_get_in;
+use lent::start::start_put_in;
+use lent::step::step_in;
+use model::bounds::within;
 use model::types::State;
-use permits::lawful::within;
-use words::types::Sizes;
-
-mod told;
+use process::types::Sizes;
+use replies::told::tell_inspect;
+use replies::told::tell_look;
+use replies::told::tell_open;
+use replies::told::tell_start;
+use replies::told::tell_status;
+use replies::told::tell_step;
 
 #[no_mangle]
 pub extern "C" fn tray_version() -> u32

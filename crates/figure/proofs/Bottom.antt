@@ -15,8 +15,8 @@ use Rattle.model.specs.Phases.{moved, usedNode, usedVersion, maxNodes, maxVersi
 use Rattle.model.specs.Calls.{processAfter}
 use Rattle.model.proofs.Tests.{if-yes, if-no, if-by, by-test, not-not}
 use Rattle.model.proofs.Words.{length-word, word-field}
-use Rattle.model.proofs.Invariant.{Ghost, Nodes, Book}
-use Rattle.model.proofs.Step.{place-in, within-T}
+use Rattle.linearizability.proofs.Invariant.{Ghost, Nodes, Book}
+use Rattle.linearizability.proofs.Step.{place-in, within-T}
 use Rattle.figure.specs.Types.{Put, Phase, Walk, Seek, Check, Update, Make, Release, Answer, TooOld, VersionsFull, Added, KeysFull, New, Found, None, Call, Cursor, Process, Ahead, Equal, Past, Refuse, Note}
 use Rattle.figure.specs.Figure.{keyOf, Pair, Inserted, createAndLink, update, Locked, release, acquire, alone, tryInsert}
 use Rattle.figure.proofs.Search.{key-same, Finds}

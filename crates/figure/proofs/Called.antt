@@ -15,9 +15,9 @@ use Rattle.model.specs.Calls.{begun, startPermit, startBy, Store, Stepped, step
 use Rattle.model.specs.History.{Action, act, performAll, begin}
 use Rattle.model.specs.ByValue.{withState, byValue}
 use Rattle.model.proofs.Laws.{granted-iff}
-use Rattle.model.proofs.Live.{memory, slot, Live}
+use Rattle.linearizability.proofs.Live.{memory, slot, Live}
 use Rattle.model.proofs.Seen.{Seen, seen}
-use Rattle.model.proofs.Linearized.{act-live, performed-live, fresh-live}
+use Rattle.linearizability.proofs.Linearized.{act-live, performed-live, fresh-live}
 use Rattle.figure.specs.Types.{Kind, Answer, Call, Version, End, Permit, Granted, Denied, Refusal, Starting, StartResult, Stepping}
 use Rattle.figure.specs.Figure.{MAX}
 use Rattle.figure.specs.Alone.{Turned, turned, moves, Reached, rested}

@@ -17,8 +17,8 @@ use Rattle.model.specs.Phases.{moved, at, ended, usedNode, ahead, checkBy, addL
 use Rattle.model.specs.Calls.{processAfter}
 use Rattle.model.proofs.Tests.{if-yes, if-no, by-test, ne→neqb}
 use Rattle.model.proofs.Words.{word-node}
-use Rattle.model.proofs.Invariant.{Ghost, Nodes}
-use Rattle.model.proofs.Step.{within-T}
+use Rattle.linearizability.proofs.Invariant.{Ghost, Nodes}
+use Rattle.linearizability.proofs.Step.{within-T}
 use Rattle.figure.specs.Types.{Put, Phase, Seek, Lock, Check, Update, Make, Link, Release, New, Call, Process, Ahead, Wait, Go}
 use Rattle.figure.specs.Figure.{Pair, Inserted, link, Locked, release, acquire, alone, findLock, insert, insertAbove}
 use Rattle.figure.proofs.Search.{Finds}

@@ -6,13 +6,12 @@ use mathlib.Core.Path.{_≡_, refl, sym, ap, _∙_, subst}
 use native.Mathlib.Omega.{arith}
 use lib.Dec.{T, eqb, leb, leb→le}
 use Rattle.model.specs.Layout.{Memory, limits, nodeWords, versionWords, capacity}
-use Rattle.model.specs.Map.{held, versionsOf, PutResult, putBy, putIn, Reply, getBy, getFrom}
+use Rattle.model.specs.Map.{held, versionsOf, PutResult, putBy, putIn, Reply, getBy, getFrom, applied}
 use Rattle.model.specs.State.{within, lawfulLength, lawfulNodes, lawfulVersions, lawfulKey}
 use Rattle.model.specs.Calls.{topOf}
-use Rattle.model.specs.Map.{applied}
-use Rattle.model.proofs.Opened.{opened-live}
+use Rattle.linearizability.proofs.Opened.{opened-live}
 use Rattle.model.proofs.Tests.{if-by, if-no, and→}
-use Rattle.model.proofs.Invariant.{Ghost, Nodes}
+use Rattle.linearizability.proofs.Invariant.{Ghost, Nodes}
 use Rattle.figure.specs.Types.{Answer, TooOld, VersionsFull, Added, KeysFull, New, Found, None, Version}
 use Rattle.figure.specs.Figure.{HMAX, MAX, head, keyOf, findAll, get, alone, put}
 use Rattle.figure.specs.Steps.{hopsDown, searchSteps, stepsAfter, stepsOf, smaller}

@@ -12,8 +12,8 @@ use Rattle.model.specs.Numbers.{noVersion}
 use Rattle.model.specs.Phases.{moved, usedVersion, ahead, walked, descend, walkBy, readOf, lawfulAt, phaseOf, turnOf}
 use Rattle.model.specs.Calls.{begun, processAfter}
 use Rattle.model.proofs.Tests.{if-yes, if-no, by-test, ne→neqb}
-use Rattle.model.proofs.Invariant.{Ghost, Nodes, Book}
-use Rattle.model.proofs.Step.{place-in, within-T}
+use Rattle.linearizability.proofs.Invariant.{Ghost, Nodes, Book}
+use Rattle.linearizability.proofs.Step.{place-in, within-T}
 use Rattle.figure.specs.Types.{Get, Walk, Read, Found, None, Call, Process, Ahead, Equal, Past, End}
 use Rattle.figure.specs.Figure.{HMAX, head, keyOf, Pair, findAll, get}
 use Rattle.figure.specs.Steps.{hopsDown, searchSteps, stepsAfter, stepsOf}

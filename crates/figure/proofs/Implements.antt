@@ -15,11 +15,11 @@ use Rattle.model.specs.ByValue.{freshStore}
 use Rattle.model.specs.Linearizability.{All}
 use Rattle.model.proofs.Tests.{by-le}
 use Rattle.model.proofs.Laws.{top-at-most, open-accepted}
-use Rattle.model.proofs.Invariant.{Ghost, Nodes, Book}
-use Rattle.model.proofs.Effects.{Took, played}
-use Rattle.model.proofs.Live.{Live}
-use Rattle.model.proofs.Stepped.{put-applied}
-use Rattle.model.proofs.Opened.{opened-live}
+use Rattle.linearizability.proofs.Invariant.{Ghost, Nodes, Book}
+use Rattle.linearizability.proofs.Effects.{Took, played}
+use Rattle.linearizability.proofs.Live.{Live}
+use Rattle.linearizability.proofs.Stepped.{put-applied}
+use Rattle.linearizability.proofs.Opened.{opened-live}
 use Rattle.figure.specs.Types.{Answer, Call, Opening}
 use Rattle.figure.specs.Figure.{HMAX, MAX, head, alone, put}
 use Rattle.figure.specs.Alone.{memoryIn, Free, Unlocked}

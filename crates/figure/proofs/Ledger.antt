@@ -10,9 +10,9 @@ use Rattle.model.specs.Map.{Map, PutResult, putIn, answered, getFrom}
 use Rattle.model.specs.Phases.{Moved, ownVersion, maxNodes, maxVersions}
 use Rattle.model.specs.Calls.{begun, processAfter}
 use Rattle.model.proofs.Words.{filled}
-use Rattle.model.proofs.Invariant.{Ghost, Nodes, Book, At, PlacedOf, Fits}
-use Rattle.model.proofs.Step.{Does, Good, Result}
-use Rattle.model.proofs.Turn.{turn-good}
+use Rattle.linearizability.proofs.Invariant.{Ghost, Nodes, Book, At, PlacedOf, Fits}
+use Rattle.linearizability.proofs.Step.{Does, Good, Result}
+use Rattle.linearizability.proofs.Turn.{turn-good}
 use Rattle.figure.specs.Types.{Kind, Idle, Put, Get, Walk, Answer, Call, Effect, Process, Version, Move, Refuse, Wait, Go, Note, Commit, End}
 use Rattle.figure.proofs.Walking.{Asked}
 use Rattle.figure.proofs.Runs.{Going, Place, at-place, stepped, place-after, Goes, after-call, run-call, Ended}

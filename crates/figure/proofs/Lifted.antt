@@ -17,8 +17,8 @@ use Rattle.model.specs.Phases.{Moved, moved, lawfulAt, lawfulProcess, turnOf}
 use Rattle.model.specs.Calls.{Store, Stepped, stepPermit, processAfter, outcomeOf, tallyAfter, stepBy, stepOf}
 use Rattle.model.proofs.Seen.{Seen, sawStep}
 use Rattle.model.proofs.Tests.{is-true, if-no, eq→eqb}
-use Rattle.model.proofs.Live.{memory, slot, Live, core-lawful}
-use Rattle.model.proofs.Stepped.{step-live}
+use Rattle.linearizability.proofs.Live.{memory, slot, Live, core-lawful}
+use Rattle.linearizability.proofs.Stepped.{step-live}
 use Rattle.figure.specs.Types.{Kind, Idle, Put, Get, Answer, Process, Version, Move, Refuse, Wait, Go, Note, Commit, End, Granted, Stepping}
 use Rattle.figure.specs.Alone.{Turned, turned, moves, rested}
 use Rattle.figure.proofs.Runs.{Going, Place, at-place, stepped, place-after, Goes}

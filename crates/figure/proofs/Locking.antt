@@ -11,7 +11,7 @@ use Rattle.model.specs.Phases.{moved, at, ahead, seekBy, seekOf, lockOf, checkB
 use Rattle.model.specs.Calls.{processAfter}
 use Rattle.model.proofs.Tests.{if-yes, if-no, by-eq, eq→eqb, ne→neqb}
 use Rattle.model.proofs.Words.{same-key, word-field}
-use Rattle.model.proofs.Invariant.{Ghost, Nodes}
+use Rattle.linearizability.proofs.Invariant.{Ghost, Nodes}
 use Rattle.figure.specs.Types.{Put, Phase, Walk, Read, Seek, Lock, Check, Update, Make, Link, Release, Answer, Call, Process, Ahead, Wait, Go}
 use Rattle.figure.specs.Figure.{MAX, tail, keyOf, Pair, acquire, alone, findLock}
 use Rattle.figure.proofs.Search.{Finds, find-stop, link-used, level5}

@@ -19,8 +19,8 @@ use Rattle.model.specs.Requests.{Operation, keyOf}
 use Rattle.model.specs.Linearizability.{All}
 use Rattle.model.proofs.Tests.{by-eq}
 use Rattle.model.proofs.Laws.{top-at-most}
-use Rattle.model.proofs.Opened.{opened-live}
-use Rattle.model.proofs.Live.{slot, Live, core-lawful, status-is}
+use Rattle.linearizability.proofs.Opened.{opened-live}
+use Rattle.linearizability.proofs.Live.{slot, Live, core-lawful, status-is}
 use Rattle.figure.specs.Types.{Idle, Answer, Call, Process, Finish, Opening, Starting, Stepping, Granted}
 use Rattle.figure.specs.Figure.{get, alone, put}
 use Rattle.figure.specs.Steps.{stepsOf}

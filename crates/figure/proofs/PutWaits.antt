@@ -13,8 +13,8 @@ use Rattle.model.specs.Requests as Requests
 use Rattle.model.specs.History as History
 use Rattle.model.proofs.Seen.{Seen, sawStep}
 use Rattle.model.specs.ByValue.{withState}
-use Rattle.model.proofs.Live.{memory, Live}
-use Rattle.model.proofs.Stepped.{step-live}
+use Rattle.linearizability.proofs.Live.{memory, Live}
+use Rattle.linearizability.proofs.Stepped.{step-live}
 use Rattle.figure.specs.Types.{Call, State, Wait, Stepping}
 use Rattle.figure.specs.Figure.{put}
 use Rattle.figure.specs.Steps.{searchSteps}

@@ -16,7 +16,7 @@ use Rattle.model.specs.Phases.{moved, ownVersion, isNew, rise, released, freed,
 use Rattle.model.specs.Calls.{begun}
 use Rattle.model.proofs.Tests.{if-yes, if-no, by-eq}
 use Rattle.model.proofs.Words.{word-same, word-other}
-use Rattle.model.proofs.Invariant.{Ghost, Nodes, Book}
+use Rattle.linearizability.proofs.Invariant.{Ghost, Nodes, Book}
 use Rattle.figure.specs.Types.{Put, Lock, Release, Answer, TooOld, VersionsFull, Added, KeysFull, New, Found, None, Call, End}
 use Rattle.figure.specs.Figure.{HMAX, head, Pair, findAll, Inserted, release, alone, insertAbove, insertAll, putH}
 use Rattle.figure.specs.Alone.{Free, leftBelow}

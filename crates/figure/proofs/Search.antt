@@ -9,7 +9,7 @@ use lib.Dec.{T, eqb, leb, ltb, leb→le, nleb→lt, ltb→lt, lt→ltb}
 use Rattle.model.specs.Layout.{Memory, key, next}
 use Rattle.model.proofs.Tests.{if-eq, if-yes, if-no, by-eq, by-test, and→, →and, ne→neqb, eq→eqb, T-absurd}
 use Rattle.model.proofs.Counting.{count, count-less, count-mono, count-most}
-use Rattle.model.proofs.Invariant.{Ghost, Nodes, At}
+use Rattle.linearizability.proofs.Invariant.{Ghost, Nodes, At}
 use Rattle.figure.specs.Figure.{HMAX, MAX, head, tail, keyOf, Pair, find, findAll}
 use Rattle.figure.specs.Steps.{hops, hopsDown, smaller}
 

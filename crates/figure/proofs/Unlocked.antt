@@ -9,7 +9,7 @@ use Rattle.model.specs.State.{lawfulKey}
 use Rattle.model.specs.Calls.{Store, standing, topOf}
 use Rattle.model.proofs.Tests.{by-le}
 use Rattle.model.proofs.Laws.{top-at-most}
-use Rattle.model.proofs.Live.{slot, status-is}
+use Rattle.linearizability.proofs.Live.{slot, status-is}
 use Rattle.figure.specs.Types.{Kind, Idle, Put, Get, Process, Status}
 use Rattle.figure.specs.Figure.{HMAX, MAX, head, alone, put}
 use Rattle.figure.specs.Alone.{memoryIn, Resting, RestUnlocks, UnlockedFrees, PutUnlocks}

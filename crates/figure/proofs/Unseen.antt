@@ -7,7 +7,7 @@ use Rattle.model.specs.Map.{Map}
 use Rattle.model.specs.Calls.{topOf}
 use Rattle.model.proofs.Tests.{by-le}
 use Rattle.model.proofs.Laws.{top-at-most}
-use Rattle.model.proofs.Invariant.{Ghost, Nodes, Book}
+use Rattle.linearizability.proofs.Invariant.{Ghost, Nodes, Book}
 use Rattle.figure.specs.Types.{Answer}
 use Rattle.figure.specs.Figure.{HMAX, MAX, head, get, alone, put}
 use Rattle.figure.specs.Alone.{Free, Unlocked}

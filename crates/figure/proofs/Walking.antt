@@ -14,7 +14,7 @@ use Rattle.model.specs.Phases.{moved, at, ahead, descend, walkBy, walkOf, lawfu
 use Rattle.model.specs.Calls.{topOf, processAfter}
 use Rattle.model.proofs.Tests.{if-yes, if-no, by-eq, by-test, →and, eq→eqb, ne→neqb}
 use Rattle.model.proofs.Laws.{top-at-most}
-use Rattle.model.proofs.Invariant.{Ghost, Nodes, At}
+use Rattle.linearizability.proofs.Invariant.{Ghost, Nodes, At}
 use Rattle.figure.specs.Types.{Kind, Idle, Put, Get, Phase, Walk, Answer, None, Call, Process, Ahead, Less, Equal, Past, Note}
 use Rattle.figure.specs.Figure.{HMAX, MAX, keyOf, Pair, find, findAll}
 use Rattle.figure.specs.Steps.{hops, hopsDown}

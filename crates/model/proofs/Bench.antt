@@ -6,10 +6,8 @@ use mathlib.Core.Path.{_≡_, refl}
 use mathlib.Core.List.{List, [], _∷_, _++_}
 use lib.Count.{trailingZeros}
 use lib.ListN.{length, replicate}
-use Rattle.model.specs.Types.{Opening, Starting, Stepping, Looking, Inspecting, Status}
-use Rattle.model.specs.Types.{Process, Kind, Put, Get, Phase}
-use Rattle.model.specs.Types.{Answer, Added, New, Found}
-use Rattle.model.specs.Types.{Refusal}
+use Rattle.model.specs.Types.{Opening, Starting, Stepping, Looking, Inspecting, Status, Process, Kind, Put, Get, Phase}
+use Rattle.model.specs.Types.{Answer, Added, New, Found, Refusal}
 use Rattle.model.specs.Layout as Layout
 use Rattle.model.specs.Layout.{nodeWords, versionWords, limits, capacity, word}
 use Rattle.model.specs.Numbers.{numberOf, placeOf}

@@ -11,8 +11,7 @@ use Rattle.model.specs.Types.{Corrupt, Damaged, NoKey, NoVersion, Put, G
 use Rattle.model.specs.Layout.{nodeWords, versionWords, levels}
 use Rattle.model.specs.Calls.{Store}
 use Rattle.model.specs.History.{step, look}
-use Rattle.model.proofs.Bench.{startGet}
-use Rattle.model.proofs.Bench.{Question, call, inspect, status, Said, inspected, stands, Case, said}
+use Rattle.model.proofs.Bench.{startGet, Question, call, inspect, status, Said, inspected, stands, Case, said}
 use Rattle.model.proofs.Bench.{fit, put, on, done, shows, no-start, no-step, no-look}
 
 -- ---- alterations

@@ -13,12 +13,10 @@ use lib.ListN.{length}
 use lib.Seq.{set-getD}
 use Rattle.model.specs.Types.{Answer, TooOld, VersionsFull, Added, KeysFull, New, Found, None}
 use Rattle.model.specs.Types.{Refusal, NodeLength, VersionLength, ProcessCount, EventLimit, NoProcess, BadKey}
-use Rattle.model.specs.Types.{Busy, NoCall, Spent, Corrupt, Damaged, NoKey, NoVersion}
-use Rattle.model.specs.Types.{NotOpen, UnknownCommand, CutShort}
+use Rattle.model.specs.Types.{Busy, NoCall, Spent, Corrupt, Damaged, NoKey, NoVersion, NotOpen, UnknownCommand, CutShort}
 use Rattle.model.specs.Types.{Phase, Walk, Read, Seek, Lock, Check, Update, Make, Link, Release}
 use Rattle.model.specs.Types.{Ahead, Unused, Less, Equal, Past, Move, Refuse, Wait, Go, Note, Commit, End}
-use Rattle.model.specs.Types.{Permit, Granted, Denied, Call, Cursor, Effect, Process, State, Version}
-use Rattle.model.specs.Types.{Opening, Starting, Stepping, Looking}
+use Rattle.model.specs.Types.{Permit, Granted, Denied, Call, Cursor, Effect, Process, State, Version, Opening, Starting, Stepping, Looking}
 use Rattle.model.specs.Choice.{if_then_else_}
 use Rattle.model.specs.Layout.{limits, topLevel, levels, Memory, newest, prev}
 use Rattle.model.specs.Numbers.{numberOf, placeOf, refusals, refusalOf, answers, answerOf}
@@ -27,8 +25,7 @@ use Rattle.model.specs.State.{closedState, memoryOf, within, lawfulLengt
 use Rattle.model.proofs.Tests.{leb-iff, eqb-iff}
 use Rattle.model.specs.Phases.{Moved, moved, usedVersion, lockOf, checkBy, checkOf, updateNode, updateAt}
 use Rattle.model.specs.Phases.{updateOf, makeOf, linkOf, rise, released, freed, releaseOf, phaseOf, turnOf}
-use Rattle.model.specs.Calls.{denyIf, openDue, openPermit, Opened, openBy, openOf, topOf}
-use Rattle.model.specs.Calls.{startPermit, startBy, startOf}
+use Rattle.model.specs.Calls.{denyIf, openDue, openPermit, Opened, openBy, openOf, topOf, startPermit, startBy, startOf}
 use Rattle.model.specs.Calls.{Store, stepPermit, processAfter, outcomeOf, tallyAfter, stepBy, stepOf}
 use Rattle.model.specs.Calls.{backFrom, lookNode, lookPermit, lookBy, lookOf}
 

@@ -3,15 +3,13 @@ use Prim.Native.Nat.{_+_}
 use mathlib.Core.List.{List, [], _∷_, _++_, map}
 use mathlib.Core.Path.{_≡_, refl}
 use lib.ListN.{replicate}
-use Rattle.model.specs.Types.{Opening, Starting, Inspecting, Status}
-use Rattle.model.specs.Types.{Put, Get, Walk, Read, Seek, Lock, Make}
+use Rattle.model.specs.Types.{Opening, Starting, Inspecting, Status, Put, Get, Walk, Read, Seek, Lock, Make}
 use Rattle.model.specs.Types.{TooOld, VersionsFull, Added, KeysFull, New, Found, None}
 use Rattle.model.specs.Types.{NodeLength, VersionLength, ProcessCount, EventLimit, NoProcess, BadKey}
 use Rattle.model.specs.Types.{Busy, NoCall, Spent, Corrupt, NoKey, NoVersion}
 use Rattle.model.specs.State.{idleProcess}
 use Rattle.model.specs.History.{step, look}
-use Rattle.model.proofs.Bench.{startPut, startGet}
-use Rattle.model.proofs.Bench.{Case, call, status, inspect, tally, tables, word-of, process, observer, ledger}
+use Rattle.model.proofs.Bench.{startPut, startGet, Case, call, status, inspect, tally, tables, word-of, process, observer, ledger}
 use Rattle.model.proofs.Bench.{started, stands, inspected, words, keeps, lists, start, said, lent, fit}
 use Rattle.model.proofs.Bench.{with-tally, case, alike-in-half, steps, put, get, times, side-by-side, done, on, wait, shows}
 use Rattle.model.proofs.Bench.{no-start, no-step, no-look, one, two, draw-gives, draw-makes, opens, thrice}

@@ -113,6 +113,10 @@ pub record Store : Type 0 where
   pub versions : List ℕ
   pub tally : List ℕ
 
+-- the state and the words lent with it
+abbrev pub storeOf : State → (nodes versions tally : List ℕ) → Store
+storeOf s nodes versions tally = record { state = s; nodes = nodes; versions = versions; tally = tally }
+
 pub record Stepped : Type 0 where
   pub outcome : Stepping
   pub store : Store

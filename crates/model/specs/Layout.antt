@@ -1,7 +1,7 @@
 -- Document 01, "Memory": sizes, limits, and where each word stands in the two tables.
 use Prim.Native.Nat.{ℕ, suc, _+_, _*_, _-_, _/_, _%_}
 use mathlib.Core.List.{List, [], _∷_, _++_}
-use lib.ListN.{length, getD, set, replicate}
+use lib.ListN.{getD, set, replicate}
 use lib.Seq.{sets}
 use Rattle.model.specs.Types.{Counts, Limits, Version}
 
@@ -35,8 +35,8 @@ levels = suc topLevel
 
 -- K or V of a table: what a table of so many words holds beside its first record. "Node 0 is the left sentinel"; "Place 0
 -- is unused."
-unfoldable pub capacity : (words length : ℕ) → ℕ
-capacity words length = length / words - 1
+unfoldable pub capacity : (words size : ℕ) → ℕ
+capacity words size = size / words - 1
 
 -- ---- a key in two words
 

@@ -67,7 +67,7 @@ abbrev pub within : (low high n : ℕ) → Bool
 within low high n = leb low n && leb n high
 
 -- "Node table: a multiple of 16 words, 32 to 16,384"; "Reading table: a multiple of 3 words, 6 to 12,288"
-unfoldable pub lawfulLength : (words most length : ℕ) → Bool
+unfoldable pub lawfulLength : (words most n : ℕ) → Bool
 lawfulLength words most n = within (2 * words) (words * suc most) n && eqb (n % words) 0
 
 abbrev pub lawfulNodes : ℕ → Bool

@@ -1,4 +1,5 @@
 // The types of the store, by value, and their numbers. Their meaning stands in specs/, what follows from it in proofs/.
+pub mod bounds;
 pub mod halves;
 pub mod numbers;
 pub mod types;

@@ -271,6 +271,7 @@ impl State {
     // The greatest count of the tally: it stays there.
     pub const COUNT: u32 = 4294967295;
 
+    // Never called: it ties the constants to the definitions.
     pub fn limits() -> Limits
         ensures { λ r. ⌜ r ≡ limits ⌝ }
     {

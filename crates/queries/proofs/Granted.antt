@@ -10,7 +10,7 @@ use Rattle.model.specs.State.{lawfulStore}
 use Rattle.model.specs.Calls.{lookPermit}
 use Rattle.model.specs.Inspection.{inspectPermit}
 use Rattle.model.proofs.Laws.{granted-iff}
-use Rattle.permits.proofs.Laws.{lawful-store}
+use Rattle.refusals.proofs.Laws.{lawful-store}
 use Rattle.tables.specs.Room.{Lent}
 
 module _ (s : State) (nodes versions : List ℕ) where

@@ -9,7 +9,7 @@ use model::types::Counts;
 use model::types::Inspecting;
 use model::types::Permit;
 use model::types::State;
-use permits::permit::inspect_permit;
+use refusals::permit::inspect_permit;
 use tables::nodes::next_at;
 
 // Levels 0 to the highest, along the links from the head: left at the first fault, with the level and the node reached.

@@ -2,13 +2,13 @@
 ghost use mathlib.Core.Path.{_≡_};
 ghost use Rattle.model.specs.Calls.{findFrom, backFrom, lookNode, lookOf};
 ghost use Rattle.tables.specs.Room.{NodeRoom, VersionRoom, memory, Lent};
+use layout::head::header_of;
 use model::types::Counts;
 use model::types::Looking;
 use model::types::Permit;
 use model::types::Refusal;
 use model::types::State;
-use permits::header::header_of;
-use permits::permit::look_permit;
+use refusals::permit::look_permit;
 use tables::nodes::key_at;
 use tables::nodes::newest_at;
 use tables::versions::prev_at;

@@ -4,7 +4,7 @@ mod pieces;
 mod types;
 
 use crate::pieces::run;
-use session::types::Buffers;
+use buffers::types::Buffers;
 
 fn main() {
     let mut nodes = [0u32; Buffers::NODES];

@@ -1,10 +1,10 @@
 // Output: a page of lines at a time.
-ghost use Rattle.player.specs.Sheet.{Within};
-use command::types::Line;
+ghost use Rattle.interpreter.specs.Sheet.{Within};
+use interpreter::play::play;
+use interpreter::types::Played;
 use libc::STDOUT_FILENO;
 use model::types::Refusal;
-use player::play::play;
-use player::types::Played;
+use printer::types::Line;
 
 pub fn print_refusal(refusal: Refusal) {
     let mut out = [0u8; 128];

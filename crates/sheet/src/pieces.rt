@@ -7,11 +7,11 @@ use crate::pages::play_pages;
 use crate::pages::print_refusal;
 use crate::types::Piece;
 use crate::types::Run;
+use interpreter::play::rest;
+use interpreter::types::Played;
+use interpreter::types::Rest;
 use libc::STDIN_FILENO;
 use model::types::State;
-use player::play::rest;
-use player::types::Played;
-use player::types::Rest;
 
 // The bytes from `from` up to `end`, moved to the front; the answer is how many they are.
 fn shift(bytes: &mut [u8], from: usize, end: usize) -> usize

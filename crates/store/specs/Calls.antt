@@ -3,8 +3,7 @@ use Prim.Native.Nat.{ℕ}
 use mathlib.Core.List.{List}
 use Rattle.model.specs.declared.types.OpenResult.{OpenResult}
 use Rattle.model.specs.declared.types.StepResult.{StepResult}
-use Rattle.model.specs.Calls.{Opened, Stepped}
-use Rattle.permits.specs.Header.{storeOf}
+use Rattle.model.specs.Calls.{Opened, Stepped, storeOf}
 
 -- an opening: outcome, state and both tables
 abbrev pub opened : OpenResult → (nodes versions : List ℕ) → Opened

@@ -3,18 +3,19 @@ ghost use mathlib.Core.Path.{_≡_};
 ghost use lib.ListN.{length};
 ghost use Rattle.model.specs.Layout.{limits};
 ghost use Rattle.tables.specs.Room.{Lent, memory};
-ghost use Rattle.store.specs.Advance.{advanceOf, advanced};
-use crate::after::count_end;
-use crate::after::outcome_of;
-use crate::after::process_after;
+ghost use Rattle.calls.specs.Advance.{advanceOf};
+ghost use Rattle.store.specs.Attempt.{advanced};
 use crate::types::Advanced;
+use calls::after::count_end;
+use calls::after::outcome_of;
+use calls::after::process_after;
 use model::types::Counts;
 use model::types::Process;
 use model::types::Refusal;
 use model::types::Stepping;
 use phases::moves::is_refusal;
-use turn::turn::turn;
-use words::process::words_of;
+use process::words::words_of;
+use transition::turn::turn;
 
 // `holder` is the process's number plus 1, `tick` that of this event.
 pub fn advance(

@@ -1,10 +1,7 @@
-// The public calls of the store: open, start, step and status. None asks anything of its arguments: what is unlawful is
-// refused, and a refusal changes nothing. `after` and `slot` are what the calls on lent words share with these.
+// The public calls that change the store: open, start and step. None asks anything of its arguments: what is unlawful is
+// refused, and a refusal changes nothing.
 mod advance;
-pub mod after;
 pub mod open;
-pub mod slot;
 pub mod start;
-pub mod status;
 pub mod step;
 pub mod types;

@@ -2,56 +2,18 @@
 ghost use mathlib.Core.Path.{_≡_};
 ghost use Prim.Native.Nat.{_+_};
 ghost use Rattle.model.specs.Requests.{put, get};
-ghost use Rattle.model.specs.Calls.{topOf, begun, startPermit, startBy, startOf};
-use crate::slot::slot;
-use model::types::Answer;
+ghost use Rattle.model.specs.Calls.{startPermit, startBy, startOf};
+use calls::begin::begin;
+use calls::begin::top_of;
+use calls::slot::slot;
+use layout::head::header_of;
 use model::types::Call;
-use model::types::Cursor;
-use model::types::Effect;
 use model::types::Kind;
 use model::types::Permit;
-use model::types::Phase;
-use model::types::Process;
 use model::types::StartResult;
 use model::types::Starting;
 use model::types::State;
-use permits::header::header_of;
-use permits::permit::start_permit;
-
-// The top level that a draw gives.
-pub fn top_of(draw: u16) -> u32
-    ensures { λ r. ⌜ r ≡ topOf draw ⌝ }
-{
-    let zeros = u16::trailing_zeros(draw);
-    if zeros < State::TOP {
-        zeros
-    } else {
-        State::TOP
-    }
-}
-
-// A process at the start of its walk.
-pub fn begin(call: Call) -> Process
-    ensures { λ r. ⌜ r ≡ begun call ⌝ }
-{
-    let cursor = Cursor {
-        phase: Phase::Walk,
-        level: State::TOP,
-        pred: 0,
-        made: 0,
-    };
-    let effect = Effect {
-        answer: Answer::None,
-        tick: 0,
-    };
-    let preds = [0; 6];
-    Process {
-        call,
-        cursor,
-        effect,
-        preds,
-    }
-}
+use refusals::permit::start_permit;
 
 fn start(
     mut s: State,

@@ -1,22 +1,21 @@
 // One step of a process.
 ghost use mathlib.Core.Path.{_≡_};
-ghost use Rattle.model.specs.Calls.{stepOf};
-ghost use Rattle.permits.specs.Header.{storeOf};
+ghost use Rattle.model.specs.Calls.{stepOf, storeOf};
 ghost use Rattle.model.specs.declared.types.Permit.the-variants.{Granted};
 ghost use Rattle.tables.specs.Room.{memory};
-ghost use Rattle.store.specs.Advance.{Passed, attemptOf, advanced};
+ghost use Rattle.store.specs.Attempt.{Passed, attemptOf, advanced};
 ghost use Rattle.store.specs.Calls.{stepped};
 use crate::advance::advance;
-use crate::slot::slot;
 use crate::types::Advanced;
+use calls::slot::slot;
+use layout::head::header_of;
 use model::types::Counts;
 use model::types::Permit;
 use model::types::Process;
 use model::types::State;
 use model::types::StepResult;
 use model::types::Stepping;
-use permits::header::header_of;
-use permits::permit::step_permit;
+use refusals::permit::step_permit;
 
 // The step if it is let pass. `events` are those before it.
 fn attempt(

@@ -15,13 +15,12 @@ use Rattle.model.specs.System.{Opens, viewOf}
 use Rattle.model.specs.ByValue.{withState, freshStore, Given, opensBy, byValue}
 use Rattle.model.specs.Linearizability.{Linearizable}
 use Rattle.model.proofs.Laws.{granted-fits}
-use Rattle.model.proofs.Simulated.{Same, SameOpening, Simulates, simulated}
-use Rattle.model.proofs.Linearized as by-value
-use Rattle.session.specs.Session.{Session, session, Done, lent, back, tableWords, buffers, openedOn, startedOn, steppedOn, openOn, callOn}
-use Rattle.session.specs.Session.{performOf}
-use Rattle.session.proofs.Laws.{asked-permit}
-use Rattle.transcript.specs.Types.{Command, Open, Step, Look, Inspect, Call, Lengths, State, Permit, Granted, Denied}
-use Rattle.transcript.specs.Types.{StartResult, Inspecting}
+use Rattle.linearizability.proofs.Simulated.{Same, SameOpening, Simulates, simulated}
+use Rattle.linearizability.proofs.Linearized as by-value
+use Rattle.buffers.specs.Session.{Session, session, Done, lent, back, tableWords, buffers, openedOn, startedOn, steppedOn, openOn, callOn}
+use Rattle.executor.specs.Perform.{performOf}
+use Rattle.buffers.proofs.Laws.{asked-permit}
+use Rattle.transcript.specs.Types.{Command, Open, Step, Look, Inspect, Call, Lengths, State, Permit, Granted, Denied, StartResult, Inspecting}
 use Rattle.transcript.specs.Meanings.{startMeant, stepMeant, lookMeant, inspectMeant}
 use Rattle.transcript.specs.BySheet.{BufferLengths, Asked, fittingFor, opensByLine, startCommand, answered, bySheet}
 use Rattle.transcript.proofs.Lengths.{Keeps, step-keeps, length-fresh}

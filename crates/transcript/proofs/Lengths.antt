@@ -16,9 +16,9 @@ use Rattle.model.specs.Phases.{released, releaseOf, lawfulProcess, phaseOf, tur
 use Rattle.model.specs.Calls.{openPermit, openBy, openOf, counted, tallyAfter, evented, Store, stepPermit, stepBy, stepOf}
 use Rattle.model.proofs.Tests.{if-by}
 use Rattle.model.proofs.Words.{length-word, length-node, length-version}
-use Rattle.session.specs.Session.{Session, Done, lent, tableWords, openOn, callOn, opens, performOf}
-use Rattle.transcript.specs.Types.{Command, Open, Put, Get, Step, Look, Inspect, Permit, Granted, Denied}
-use Rattle.transcript.specs.Types.{Answer, Call, Cursor, Process}
+use Rattle.buffers.specs.Session.{Session, Done, lent, tableWords, openOn, callOn}
+use Rattle.executor.specs.Perform.{opens, performOf}
+use Rattle.transcript.specs.Types.{Command, Open, Put, Get, Step, Look, Inspect, Permit, Granted, Denied, Answer, Call, Cursor, Process}
 use Rattle.transcript.specs.Types.{Phase, Walk, Read, Seek, Lock, Check, Update, Make, Link, Release}
 use Rattle.transcript.specs.Types.{Ahead, Unused, Less, Equal, Past, Move, Refuse, Wait, Go, Note, Commit, End}
 use Rattle.transcript.specs.BySheet.{BufferLengths}

@@ -3,8 +3,9 @@ use Prim.Native.Nat.{ℕ}
 use mathlib.Core.Bool.{_||_}
 use mathlib.Core.Path.{_≡_, refl}
 use Rattle.model.proofs.Tests.{if-by}
-use Rattle.command.specs.Answers.{openLine, startLine, stepLine, lookLine, inspectLine}
-use Rattle.session.specs.Session.{Session, Done, openOn, callOn, opens, performOf}
+use Rattle.printer.specs.Answers.{openLine, startLine, stepLine, lookLine, inspectLine}
+use Rattle.buffers.specs.Session.{Session, Done, openOn, callOn}
+use Rattle.executor.specs.Perform.{opens, performOf}
 use Rattle.transcript.specs.Types.{Command, Open, Put, Get, Step, Look, Inspect, Line, NotOpen}
 use Rattle.transcript.specs.Types.{Opening, Starting, Stepping, Looking, Inspecting}
 use Rattle.transcript.specs.Meanings.{openMeant, startMeant, stepMeant, lookMeant, inspectMeant}

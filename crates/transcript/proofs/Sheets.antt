@@ -12,9 +12,9 @@ use Rattle.model.specs.ByValue.{opensBy}
 use Rattle.model.specs.History.{Action, Observation, History, emptyHistory, Run, perform, performAll, begin}
 use Rattle.model.specs.Linearizability.{Claim, EffectsStay}
 use Rattle.model.proofs.Tests.{if-by}
-use Rattle.session.specs.Session.{Session, Done, openedOn, openOn, callOn, opens, performOf}
-use Rattle.transcript.specs.Types.{Command, Open, Put, Get, Step, Look, Inspect, Line, Refusal, NotOpen}
-use Rattle.transcript.specs.Types.{Permit, Granted, Denied}
+use Rattle.buffers.specs.Session.{Session, Done, openedOn, openOn, callOn}
+use Rattle.executor.specs.Perform.{opens, performOf}
+use Rattle.transcript.specs.Types.{Command, Open, Put, Get, Step, Look, Inspect, Line, Refusal, NotOpen, Permit, Granted, Denied}
 use Rattle.transcript.specs.Meanings.{openMeant}
 use Rattle.transcript.specs.BySheet.{BufferLengths, Asked, fittingFor, bySheet}
 use Rattle.transcript.specs.Sheets.{AllDone, performedAll, Reached, NoOpen, actionIn, actionsIn, entryIn, entriesIn, runOf}

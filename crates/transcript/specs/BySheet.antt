@@ -8,7 +8,8 @@ use Rattle.model.specs.Requests.{Fitting, Operation, put, get}
 use Rattle.model.specs.Calls.{statusOf}
 use Rattle.model.specs.System.{Opens, After, System}
 use Rattle.model.specs.ByValue.{opensBy}
-use Rattle.session.specs.Session.{Session, Done, tableWords, buffers, performOf}
+use Rattle.buffers.specs.Session.{Session, Done, tableWords, buffers}
+use Rattle.executor.specs.Perform.{performOf}
 use Rattle.transcript.specs.Types.{Command, Open, Put, Get, Step, Look, Inspect, Line}
 use Rattle.transcript.specs.Meanings.{openMeant, startMeant, stepMeant, lookMeant, inspectMeant}
 

@@ -1,7 +1,7 @@
 -- The types of `model` and `command` that this crate names. Constructors that two types share are written through their type.
-pub use Rattle.command.specs.declared.types.Command.{Command}
-pub use Rattle.command.specs.declared.types.Command.the-variants.{Open, Put, Get, Step, Look, Inspect}
-pub use Rattle.command.specs.declared.types.Line.{Line}
+pub use Rattle.decoder.specs.declared.types.Command.{Command}
+pub use Rattle.decoder.specs.declared.types.Command.the-variants.{Open, Put, Get, Step, Look, Inspect}
+pub use Rattle.printer.specs.declared.types.Line.{Line}
 pub use Rattle.model.specs.declared.types.Phase.{Phase}
 pub use Rattle.model.specs.declared.types.Phase.the-variants.{Walk, Read, Seek, Lock, Check, Update, Make, Link, Release}
 pub use Rattle.model.specs.declared.types.Answer.{Answer}

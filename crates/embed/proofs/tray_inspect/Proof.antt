@@ -1,7 +1,7 @@
 -- The call on lent words, its outcome told.
 use mathlib.Core.Path.{ap, _∙_}
 use Rattle.embed.specs.Calls.{trayInspect}
-use Rattle.embed.specs.Told.{inspectTold}
+use Rattle.replies.specs.Told.{inspectTold}
 use borrow.Author.Needs.{needs}
 use Rattle.embed.proofs.tray_inspect.Statement.{statement}
 use Rattle.embed.proofs.tray_inspect.Tie as tie

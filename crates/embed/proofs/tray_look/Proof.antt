@@ -1,7 +1,7 @@
 -- The call on lent words, its outcome told.
 use mathlib.Core.Path.{ap, _∙_}
 use Rattle.embed.specs.Calls.{trayLook}
-use Rattle.embed.specs.Told.{lookTold}
+use Rattle.replies.specs.Told.{lookTold}
 use borrow.Author.Needs.{needs}
 use Rattle.embed.proofs.tray_look.Statement.{statement}
 use Rattle.embed.proofs.tray_look.Tie as tie

@@ -1,7 +1,7 @@
 -- The call on lent words, its outcome told.
 use mathlib.Core.Path.{ap, _∙_}
 use Rattle.embed.specs.Calls.{trayStanding}
-use Rattle.embed.specs.Told.{statusTold}
+use Rattle.replies.specs.Told.{statusTold}
 use borrow.Author.Needs.{needs}
 use Rattle.embed.proofs.tray_standing.Statement.{statement}
 use Rattle.embed.proofs.tray_standing.Tie as tie

@@ -4,7 +4,7 @@ use native.Mathlib.Omega.{arith}
 use lib.ListN.{length}
 use lib.Seq.{length-take-le}
 use borrow.Author.Needs.{needs}
-use Rattle.player.specs.Sheet.{Within}
+use Rattle.interpreter.specs.Sheet.{Within}
 use Rattle.sheet.proofs.pages.play_pages.Statement.{statement}
 use Rattle.sheet.proofs.pages.play_pages.Tie as tie
 

@@ -5,10 +5,11 @@ use borrow.Author.Needs.{needs}
 use Rattle.model.specs.Phases.{turnOf}
 use Rattle.tables.specs.Room.{memory}
 use Rattle.phases.specs.Turn.{leaves, refuses}
-use Rattle.words.specs.Layout.{sizes, processFrom}
-use Rattle.words.proofs.Back.{process-from, process-short}
-use Rattle.store.specs.Advance.{advanceOf, advanceBy}
-use Rattle.store.proofs.Laws.{refused-advance, moved-advance, level-fits}
+use Rattle.process.specs.ProcessWords.{sizes, processFrom}
+use Rattle.process.proofs.RoundTrip.{process-from, process-short}
+use Rattle.calls.specs.Advance.{advanceOf, advanceBy}
+use Rattle.calls.proofs.Laws.{refused-advance, moved-advance}
+use Rattle.transition.proofs.Laws.{level-fits}
 use Rattle.store.proofs.advance.advance.Statement.{statement}
 use Rattle.store.proofs.advance.advance.Tie as tie
 

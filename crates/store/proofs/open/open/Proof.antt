@@ -1,6 +1,6 @@
 -- A refusal leaves both tables; where none is due, the lengths fit 32 bits and the head has room.
 use Rattle.model.specs.Calls.{openBy, openOf}
-use Rattle.permits.proofs.Laws.{MayOpen, may-open}
+use Rattle.refusals.proofs.Laws.{MayOpen, may-open}
 use borrow.Author.Needs.{needs}
 use Rattle.store.proofs.open.open.Statement.{statement}
 use Rattle.store.proofs.open.open.Tie as tie

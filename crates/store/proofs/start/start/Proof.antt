@@ -1,6 +1,6 @@
 -- A start that is let pass puts the call at its process's number.
 use native.Mathlib.Omega.{arith}
-use Rattle.permits.proofs.Laws.{MayStart, may-start}
+use Rattle.refusals.proofs.Laws.{MayStart, may-start}
 use Rattle.model.specs.Calls.{startPermit, startBy}
 use mathlib.Core.Path.{_≡_, sym}
 use borrow.Author.Needs.{needs}

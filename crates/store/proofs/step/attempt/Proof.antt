@@ -1,6 +1,6 @@
 -- Denied, nothing is left changed; let pass, it is the advance.
 use native.Mathlib.Omega.{arith}
-use Rattle.store.specs.Advance.{attemptOf}
+use Rattle.store.specs.Attempt.{attemptOf}
 use borrow.Author.Needs.{needs}
 use Rattle.store.proofs.step.attempt.Statement.{statement}
 use Rattle.store.proofs.step.attempt.Tie as tie

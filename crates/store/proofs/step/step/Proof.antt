@@ -2,11 +2,11 @@
 use mathlib.Core.Path.{_≡_, sym}
 use native.Mathlib.Omega.{arith}
 use borrow.Author.Tests.{not-true, not-false}
-use Rattle.model.specs.Calls.{stepPermit}
-use Rattle.permits.specs.Header.{storeOf}
-use Rattle.permits.proofs.Laws.{may-step}
-use Rattle.store.specs.Advance.{advanced}
-use Rattle.store.proofs.Laws.{attempt-stays, attempt-passed, attempt-moves, lent-may-step}
+use Rattle.model.specs.Calls.{stepPermit, storeOf}
+use Rattle.refusals.proofs.Laws.{may-step}
+use Rattle.store.specs.Attempt.{advanced}
+use Rattle.store.proofs.Laws.{attempt-stays, attempt-passed, attempt-moves}
+use Rattle.calls.proofs.Laws.{lent-may-step}
 use borrow.Author.Needs.{needs}
 use Rattle.store.proofs.step.step.Statement.{statement}
 use Rattle.store.proofs.step.step.Tie as tie

@@ -1,0 +1,38 @@
+// What a move leaves of its process beside the cursor, in place: only the words that it changes are written.
+ghost use mathlib.Core.Path.{_≡_};
+ghost use lib.ListN.{length};
+ghost use Rattle.process.specs.ProcessWords.{sizes, processWords, processFrom, knownProcess};
+ghost use Prim.Native.Nat.{ℕ, _≤_};
+ghost use mathlib.Core.Bool.{true};
+ghost use Rattle.model.specs.Layout.{topLevel};
+ghost use Rattle.model.specs.Calls.{processAfter};
+ghost use Rattle.model.specs.declared.types.Move.the-variants.{Note, Commit};
+use model::types::Answer;
+use model::types::Cursor;
+use model::types::Effect;
+use process::words::put_cursor;
+use process::words::put_effect;
+
+// The predecessor is remembered at its level before the cursor leaves it.
+pub fn apply_note(w: &mut [u32], cursor: Cursor)
+    requires { ⌜ length (now w) ≡ sizes .process ⌝ }
+    requires { ⌜ knownProcess (now w) ≡ true ⌝ }
+    requires { ⌜ processFrom (now w) .cursor .level ≤ topLevel ⌝ }
+    ensures { λ r. ⌜ ((tick : ℕ) → now (w .exit) ≡ processWords (processAfter tick (processFrom (now (w .entry))) (Note cursor))) ⌝ }
+{
+    let at = 13 + w[8] as usize;
+    w[at] = w[9];
+    let phase = cursor.phase;
+    put_cursor(w, phase, cursor.level, cursor.pred, cursor.made);
+}
+
+pub fn apply_commit(w: &mut [u32], tick: u32, cursor: Cursor, answer: Answer)
+    requires { ⌜ length (now w) ≡ sizes .process ⌝ }
+    requires { ⌜ knownProcess (now w) ≡ true ⌝ }
+    ensures { λ r. ⌜ now (w .exit) ≡ processWords (processAfter tick (processFrom (now (w .entry))) (Commit cursor answer)) ⌝ }
+{
+    let phase = cursor.phase;
+    put_cursor(w, phase, cursor.level, cursor.pred, cursor.made);
+    let effect = Effect { answer, tick };
+    put_effect(w, effect);
+}

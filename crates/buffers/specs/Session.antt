@@ -1,0 +1,108 @@
+-- Document 01, "Sheet program": what a command does to the store, which stands in two buffers that its tables are lent from.
+use Prim.Native.Nat.{ℕ, _+_, _*_, _≤_}
+use mathlib.Core.Path.{_≡_}
+use mathlib.Core.List.{List, _++_}
+use lib.ListN.{length, take, drop, replicate}
+use Rattle.model.specs.declared.types.State.{State}
+use Rattle.model.specs.declared.types.StartResult.{StartResult}
+use Rattle.model.specs.Layout.{nodeWords, versionWords, limits}
+use Rattle.model.specs.Calls.{Opened, openOf, startOf, Store, Stepped, stepOf, lookOf}
+use Rattle.model.specs.Requests.{put, get}
+use Rattle.model.specs.Inspection.{inspectOf}
+use Rattle.decoder.specs.declared.types.Command.{Command}
+use Rattle.decoder.specs.declared.types.Command.the-variants.{Open, Put, Get, Step, Look, Inspect}
+use Rattle.printer.specs.declared.types.Line.{Line}
+use Rattle.printer.specs.Answers.{openLine, startLine, stepLine, lookLine, inspectLine}
+use Rattle.buffers.specs.declared.types.Buffers.{Buffers}
+use Rattle.buffers.specs.declared.types.Performed.{Performed}
+
+-- the state, both buffers and the tally
+pub record Session : Type 0 where
+  pub state : State
+  pub nodes : List ℕ
+  pub versions : List ℕ
+  pub tally : List ℕ
+
+abbrev pub session : State → (nodes versions tally : List ℕ) → Session
+session s nodes versions tally = record { state = s; nodes = nodes; versions = versions; tally = tally }
+
+-- what a command leaves
+pub record Done : Type 0 where
+  pub line : Line
+  pub session : Session
+
+abbrev pub done : Performed → (nodes versions tally : List ℕ) → Done
+done r nodes versions tally = record { line = r .line; session = session (r .state) nodes versions tally }
+
+-- ---- tables in buffers
+
+-- the store whose tables stand at the start of each buffer
+abbrev pub lent : Session → Store
+lent w = record {
+  state = w .state;
+  nodes = take (w .state .lengths .nodes) (w .nodes);
+  versions = take (w .state .lengths .versions) (w .versions);
+  tally = w .tally;
+}
+
+-- a table of so many words back at the start of its buffer
+abbrev pub back : (words : ℕ) (table buffer : List ℕ) → List ℕ
+back words table buffer = table ++ drop words buffer
+
+-- n words of a buffer are all that it has of a table of so many words
+pub record Lends (n words : ℕ) (buffer : List ℕ) : Type 0 where
+  pub within : n ≤ length buffer
+  pub lent : take n buffer ≡ take words buffer
+  pub left : drop n buffer ≡ drop words buffer
+
+-- "Open asks for tables of 16 × (K + 1) and 3 × (V + 1) words."
+abbrev pub tableWords : (words count : ℕ) → ℕ
+tableWords words count = words * (count + 1)
+
+-- buffers for any table that can be accepted, and one record more: a table that is too long can be asked for, and is refused
+abbrev pub buffers : Buffers
+buffers = record {
+  nodes = tableWords nodeWords (limits .nodes + 1);
+  versions = tableWords versionWords (limits .versions + 1);
+  tally = limits .answers;
+}
+
+-- ---- commands
+
+abbrev pub openedOn : Session → (keys versions processes limit : ℕ) → Opened → Done
+openedOn w k v p limit o = record {
+  line = openLine k v p limit (o .result .outcome);
+  session = session (o .result .state)
+      (back (tableWords nodeWords k) (o .nodes) (w .nodes))
+      (back (tableWords versionWords v) (o .versions) (w .versions))
+      (replicate (length (w .tally)) 0);
+}
+
+-- "Each open replaces the store": its tables and, "From zero", its tally
+unfoldable pub openOn : Session → (keys versions processes limit : ℕ) → Done
+openOn w k v p limit = openedOn w k v p limit
+    (openOf (take (tableWords nodeWords k) (w .nodes)) (take (tableWords versionWords v) (w .versions)) p limit)
+
+abbrev pub started : (process : ℕ) → StartResult → Performed
+started i r = record { line = startLine i (r .outcome); state = r .state }
+
+-- a start leaves both buffers and the tally
+abbrev pub startedOn : Session → (process : ℕ) → StartResult → Done
+startedOn w i r = done (started i r) (w .nodes) (w .versions) (w .tally)
+
+abbrev pub steppedOn : Session → (process : ℕ) → Stepped → Done
+steppedOn w i r = record {
+  line = stepLine i (r .outcome);
+  session = session (r .store .state)
+      (back (w .state .lengths .nodes) (r .store .nodes) (w .nodes))
+      (back (w .state .lengths .versions) (r .store .versions) (w .versions))
+      (r .store .tally);
+}
+
+unfoldable pub callOn : Session → Command → Done
+callOn w (Open k v p limit) = openOn w k v p limit
+callOn w (Put i k v t draw) = startedOn w i (startOf (w .state) (lent w .nodes) (lent w .versions) i (put k v t draw))
+callOn w (Get i k) = startedOn w i (startOf (w .state) (lent w .nodes) (lent w .versions) i (get k))
+callOn w (Step i) = steppedOn w i (stepOf (lent w) i)
+callOn w (Look k n) = record { line = lookLine k n (lookOf (w .state) (lent w .nodes) (lent w .versions) k n); session = w }
+callOn w Inspect = record { line = inspectLine (inspectOf (w .state) (lent w .nodes) (lent w .versions)); session = w }

@@ -1,0 +1,131 @@
+// The store's calls that a sheet makes, each on the tables in its buffers.
+ghost use mathlib.Core.Path.{_≡_};
+ghost use lib.ListN.{take};
+ghost use Rattle.model.specs.Requests.{put, get};
+ghost use Rattle.model.specs.Calls.{startOf, lookOf};
+ghost use Rattle.model.specs.Inspection.{inspectOf};
+ghost use Rattle.decoder.specs.declared.types.Command.the-variants.{Open, Step};
+ghost use Rattle.buffers.specs.Session.{session, done, started, callOn};
+ghost use Rattle.printer.specs.Answers.{lookLine, inspectLine};
+use crate::lend::asked;
+use crate::lend::held;
+use crate::types::Performed;
+use model::types::StartResult;
+use model::types::State;
+use printer::answer::of_inspect;
+use printer::answer::of_look;
+use printer::answer::of_open;
+use printer::answer::of_start;
+use printer::answer::of_step;
+use printer::types::Line;
+use queries::inspect::inspect;
+use queries::look::look;
+use store::open::open;
+use store::start::start_get;
+use store::start::start_put;
+use store::step::step;
+use tables::fresh::clear;
+
+pub fn open_on(
+    s: State,
+    keys: u32,
+    count: u32,
+    processes: u32,
+    limit: u32,
+    nodes: &mut [u32],
+    versions: &mut [u32],
+    tally: &mut [u32],
+) -> Performed
+    ensures { λ r. ⌜ done r (now (nodes .exit)) (now (versions .exit)) (now (tally .exit)) ≡ callOn (session s (now (nodes .entry)) (now (versions .entry)) (now (tally .entry))) (Open keys count processes limit) ⌝ }
+{
+    let n = asked(nodes, State::NODE_WORDS, keys);
+    let m = asked(versions, State::VERSION_WORDS, count);
+    let r = open(&mut nodes[..n], &mut versions[..m], processes, limit);
+    clear(tally);
+    let outcome = r.outcome;
+    let state = r.state;
+    let line = of_open(keys, count, processes, limit, outcome);
+    Performed { line, state }
+}
+
+// The line and the state of a start.
+fn started(process: u32, r: StartResult) -> Performed
+    ensures { λ p. ⌜ p ≡ started process r ⌝ }
+{
+    let outcome = r.outcome;
+    let state = r.state;
+    let line = of_start(process, outcome);
+    Performed { line, state }
+}
+
+pub fn put_on(
+    s: State,
+    process: u32,
+    key: u64,
+    value: u32,
+    timestamp: u32,
+    draw: u16,
+    nodes: &[u32],
+    versions: &[u32],
+) -> Performed
+    ensures { λ r. ⌜ r ≡ started process (startOf s (take (s .lengths .nodes) (now (nodes .entry))) (take (s .lengths .versions) (now (versions .entry))) process (put key value timestamp draw)) ⌝ }
+{
+    let n = held(nodes, s.lengths.nodes);
+    let m = held(versions, s.lengths.versions);
+    let r = start_put(
+        s,
+        &nodes[..n],
+        &versions[..m],
+        process,
+        key,
+        value,
+        timestamp,
+        draw,
+    );
+    started(process, r)
+}
+
+pub fn get_on(s: State, process: u32, key: u64, nodes: &[u32], versions: &[u32]) -> Performed
+    ensures { λ r. ⌜ r ≡ started process (startOf s (take (s .lengths .nodes) (now (nodes .entry))) (take (s .lengths .versions) (now (versions .entry))) process (get key)) ⌝ }
+{
+    let n = held(nodes, s.lengths.nodes);
+    let m = held(versions, s.lengths.versions);
+    let r = start_get(s, &nodes[..n], &versions[..m], process, key);
+    started(process, r)
+}
+
+pub fn step_on(
+    s: State,
+    process: u32,
+    nodes: &mut [u32],
+    versions: &mut [u32],
+    tally: &mut [u32],
+) -> Performed
+    ensures { λ r. ⌜ done r (now (nodes .exit)) (now (versions .exit)) (now (tally .exit)) ≡ callOn (session s (now (nodes .entry)) (now (versions .entry)) (now (tally .entry))) (Step process) ⌝ }
+{
+    let n = held(nodes, s.lengths.nodes);
+    let m = held(versions, s.lengths.versions);
+    let r = step(s, process, &mut nodes[..n], &mut versions[..m], tally);
+    let outcome = r.outcome;
+    let state = r.state;
+    let line = of_step(process, outcome);
+    Performed { line, state }
+}
+
+pub fn look_on(s: State, key: u64, back: u32, nodes: &[u32], versions: &[u32]) -> Line
+    ensures { λ r. ⌜ r ≡ lookLine key back (lookOf s (take (s .lengths .nodes) (now (nodes .entry))) (take (s .lengths .versions) (now (versions .entry))) key back) ⌝ }
+{
+    let n = held(nodes, s.lengths.nodes);
+    let m = held(versions, s.lengths.versions);
+    let outcome = look(s, &nodes[..n], &versions[..m], key, back);
+    of_look(key, back, outcome)
+}
+
+pub fn inspect_on(s: State, nodes: &[u32], versions: &[u32]) -> Line
+    ensures { λ r. ⌜ r ≡ inspectLine (inspectOf s (take (s .lengths .nodes) (now (nodes .entry))) (take (s .lengths .versions) (now (versions .entry)))) ⌝ }
+{
+    let n = held(nodes, s.lengths.nodes);
+    let m = held(versions, s.lengths.versions);
+    let outcome = inspect(s, &nodes[..n], &versions[..m]);
+    of_inspect(outcome)
+}

@@ -1,5 +1,0 @@
-pub mod Bytes
-pub mod Decoding
-pub mod Examples
-pub mod Pieces
-pub mod Writing

@@ -1,4 +1,0 @@
-pub mod Left
-pub mod Laws
-pub mod Encoded
-pub mod Lent

@@ -1,3 +1,0 @@
-pub mod Leave
-pub mod Calls
-pub mod Lent

@@ -1,7 +1,0 @@
-// The calls of the store on a state in words that a caller lends. A step and a start read and write one process and the
-// counts where they stand, through the same core as the calls by value.
-mod leave;
-pub mod open;
-pub mod query;
-pub mod start;
-pub mod step;

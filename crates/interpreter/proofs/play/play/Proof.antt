@@ -1,0 +1,119 @@
+-- As many tries are left as commands could be: the run of those still to make is the whole run.
+use mathlib.Core.Path.{_≡_, refl, _∙_}
+use native.Mathlib.Omega.{arith}
+use lib.ListN.{length}
+use borrow.Author.Needs.{needs}
+use borrow.Author.Tests.{not-true}
+use Rattle.interpreter.specs.Sheet.{playing, Within, playFor, playOf}
+use Rattle.interpreter.proofs.Playing.{again, still, none-left}
+use Rattle.interpreter.proofs.play.play.Statement.{statement}
+use Rattle.interpreter.proofs.play.play.Tie as tie
+
+abbrev Inv-loop : tie.InvT-loop
+Inv-loop bytes nodes₀ versions₀ tally₀ out₀ at₀ left₀ nodes versions tally out at left =
+    (length nodes ≡ length nodes₀) × (length versions ≡ length versions₀) × (length tally ≡ length tally₀) × (length out ≡ length out₀)
+    × (playFor left bytes (playing at nodes versions tally out) ≡ playFor left₀ bytes (playing at₀ nodes₀ versions₀ tally₀ out₀))
+    × (Within at₀ bytes out₀ → Within at bytes out₀)
+
+abbrev μ-loop : tie.MeasureT-loop
+μ-loop bytes nodes₀ versions₀ tally₀ out₀ at₀ left₀ nodes versions tally out at left = left
+
+loop-holds : tie.Need-loop-holds Inv-loop μ-loop
+loop-holds c = (refl, refl, refl, refl, refl, λ h. h)
+
+play-one-requires : tie.Need-play-one-requires Inv-loop μ-loop
+play-one-requires c κs = search needs
+
+same-length : tie.Need-same-length Inv-loop μ-loop
+same-length c = search needs
+
+same-length-2 : tie.Need-same-length-2 Inv-loop μ-loop
+same-length-2 c = search needs
+
+same-length-3 : tie.Need-same-length-3 Inv-loop μ-loop
+same-length-3 c = search needs
+
+same-length-4 : tie.Need-same-length-4 Inv-loop μ-loop
+same-length-4 c = search needs
+
+returns : tie.Need-returns Inv-loop μ-loop
+unfolding playOf
+returns c =
+    let e = c .before .before .before .before .before .before .before .before .before .before .play-one .ensures in
+    let l = c .before .before .before .before .before .before .before .before .before .before .before .before .before .before .before
+    .before .loop .inv in (
+      still _ _ _ _ (e .0) (e .1 .0 (not-true _ (c .if1 .taken))) ∙ l .4,
+      λ h. let w = e .1 .1 (record {
+        read = l .5 h .read;
+        next = omega (
+          arith,
+          l .3,
+          l .5 h .next,
+        );
+      }) in record { read = w .read; next = omega (arith, l .3, w .next) },
+    )
+
+sub-left : tie.Need-sub-left Inv-loop μ-loop
+sub-left c = search needs
+
+loop-less : tie.Need-loop-less Inv-loop μ-loop
+loop-less c = search needs
+
+loop-again : tie.Need-loop-again Inv-loop μ-loop
+loop-again c =
+    let e = c .before .before .before .before .before .before .before .before .before .before .play-one .ensures in
+    let l = c .before .before .before .before .before .before .before .before .before .before .before .before .before .before .before
+    .before .loop .inv in (
+      search needs,
+      search needs,
+      search needs,
+      search needs,
+      again _ _ _ _ (c .before .before .before .before .before .before .before .before .before .before .before .before .before
+          .before .before .loop-test .taken) (e .0) ∙ l .4,
+      λ h. let w = e .1 .1 (record {
+        read = l .5 h .read;
+        next = omega (
+          arith,
+          l .3,
+          l .5 h .next,
+        );
+      }) in record { read = w .read; next = omega (arith, l .3, w .next) },
+    )
+
+same-length-5 : tie.Need-same-length-5 Inv-loop μ-loop
+same-length-5 c = search needs
+
+same-length-6 : tie.Need-same-length-6 Inv-loop μ-loop
+same-length-6 c = search needs
+
+same-length-7 : tie.Need-same-length-7 Inv-loop μ-loop
+same-length-7 c = search needs
+
+same-length-8 : tie.Need-same-length-8 Inv-loop μ-loop
+same-length-8 c = search needs
+
+returns-2 : tie.Need-returns-2 Inv-loop μ-loop
+unfolding playOf
+returns-2 c = (none-left _ _ _ (omega arith) ∙ c .before .loop .inv .4, c .before .loop .inv .5)
+
+pub play-spec : {M : Type 1} → statement M
+play-spec =
+    tie.close
+    (tie.spec
+    Inv-loop
+    μ-loop
+    loop-holds
+    play-one-requires
+    same-length
+    same-length-2
+    same-length-3
+    same-length-4
+    returns
+    sub-left
+    loop-less
+    loop-again
+    same-length-5
+    same-length-6
+    same-length-7
+    same-length-8
+    returns-2)

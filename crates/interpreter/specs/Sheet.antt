@@ -1,0 +1,70 @@
+-- Document 01, "Sheet program": commands one after another, from bytes that may not all be read yet, to a page that may fill up.
+use Prim.Native.Nat.{ℕ, zero, suc, _+_, _≤_}
+use mathlib.Core.Bool.{Bool}
+use mathlib.Core.List.{List}
+use lib.Dec.{leb}
+use lib.ListN.{length, drop}
+use Rattle.model.specs.declared.types.Refusal.the-variants.{UnknownCommand, CutShort}
+use Rattle.model.specs.Choice.{if_then_else_}
+use Rattle.decoder.specs.declared.types.Decoded.{Decoded}
+use Rattle.decoder.specs.declared.types.Decoded.the-variants.{Whole, Unknown, Short, End}
+use Rattle.decoder.specs.Commands.{commandFrom}
+use Rattle.printer.specs.Lines.{Page, printOf, room}
+use Rattle.interpreter.specs.declared.types.Played.{Played}
+use Rattle.interpreter.specs.declared.types.Rest.{Rest}
+use Rattle.interpreter.specs.declared.types.Rest.the-variants.{More, Over, Ends}
+use Rattle.buffers.specs.Session.{Session, session, Done}
+use Rattle.executor.specs.Perform.{performOf}
+
+-- a sheet being played: how many of its bytes were, and what is printed
+pub record Playing : Type 0 where
+  pub session : Session
+  pub read : ℕ
+  pub page : Page
+
+abbrev pub playing : Played → (nodes versions tally out : List ℕ) → Playing
+playing r nodes versions tally out = record {
+  session = session (r .state) nodes versions tally;
+  read = r .read;
+  page = record { bytes = out; next = r .next };
+}
+
+-- a run within its bytes and its page
+pub record Within (p : Played) (bytes out : List ℕ) : Type 0 where
+  pub read : p .read ≤ length bytes
+  pub next : p .next ≤ length out
+
+abbrev pub printed : Playing → (read : ℕ) → Done → Playing
+printed p n d = record { session = d .session; read = p .read + n; page = printOf (p .page .bytes) (p .page .next) (d .line) }
+
+-- a whole command is performed and its line printed; nothing else is played
+abbrev pub playNext : Playing → Decoded → Playing
+playNext p (Whole c n) = printed p n (performOf (p .session) c)
+playNext p Unknown = p
+playNext p Short = p
+playNext p End = p
+
+-- a command is played only where there is room for its line
+unfoldable pub playOne : (bytes : List ℕ) → Playing → Playing
+playOne bytes p =
+    if leb (p .page .next + room) (length (p .page .bytes))
+    then playNext p (commandFrom (drop (p .read) bytes))
+    else p
+
+unfoldable pub playFor : (commands : ℕ) → (bytes : List ℕ) → Playing → Playing
+playFor zero bytes p = p
+playFor (suc n) bytes p = playFor n bytes (playOne bytes p)
+
+-- all that can be played: a command has a byte at least
+unfoldable pub playOf : (bytes : List ℕ) → Playing → Playing
+playOf bytes p = playFor (length bytes) bytes p
+
+-- "15 unknown byte; 16 command cut short. 15 and 16 end the run, and come before 14."
+unfoldable pub restBy : (ended : Bool) → Decoded → Rest
+restBy ended (Whole c n) = More
+restBy ended Unknown = Ends UnknownCommand
+restBy ended Short = if ended then Ends CutShort else More
+restBy ended End = if ended then Over else More
+
+unfoldable pub restOf : (bytes : List ℕ) → (read : ℕ) → (ended : Bool) → Rest
+restOf bytes read ended = restBy ended (commandFrom (drop read bytes))

@@ -1,0 +1,120 @@
+// Commands one after another, and what is left where no more can be played.
+ghost use Prim.Native.Nat.{_+_};
+ghost use mathlib.Core.Bool.{false};
+ghost use mathlib.Core.Path.{_≡_};
+ghost use lib.Dec.{leb};
+ghost use lib.ListN.{length};
+ghost use Rattle.printer.specs.Lines.{room};
+ghost use Rattle.interpreter.specs.Sheet.{playing, Within, playOne, playOf, restOf};
+use crate::types::Played;
+use crate::types::Rest;
+use decoder::decode::decode;
+use decoder::types::Decoded;
+use executor::perform::perform;
+use model::types::Refusal;
+use printer::types::Line;
+
+// A run that stands where it stood.
+fn stay(p: Played) -> Played
+    ensures { λ r. ⌜ r ≡ record { state = p .state; read = p .read; next = p .next; more = false } ⌝ }
+{
+    let state = p.state;
+    Played {
+        state,
+        read: p.read,
+        next: p.next,
+        more: false,
+    }
+}
+
+// Whether a line has room from `next` on.
+fn has_room(out: &[u8], next: usize) -> bool
+    ensures { λ r. ⌜ r ≡ leb (next + room) (length (now (out .entry))) ⌝ }
+{
+    if out.len() < next {
+        return false;
+    }
+    if out.len() - next < Line::ROOM {
+        return false;
+    }
+    true
+}
+
+fn play_one(
+    p: Played,
+    bytes: &[u8],
+    nodes: &mut [u32],
+    versions: &mut [u32],
+    tally: &mut [u32],
+    out: &mut [u8],
+) -> Played
+    ensures { λ r. ⌜ playing r (now (nodes .exit)) (now (versions .exit)) (now (tally .exit)) (now (out .exit)) ≡ playOne (now (bytes .entry)) (playing p (now (nodes .entry)) (now (versions .entry)) (now (tally .entry)) (now (out .entry))) ⌝ }
+    ensures { λ r. ⌜ (r .more ≡ false → playing r (now (nodes .exit)) (now (versions .exit)) (now (tally .exit)) (now (out .exit)) ≡ playing p (now (nodes .entry)) (now (versions .entry)) (now (tally .entry)) (now (out .entry))) ⌝ }
+    ensures { λ r. ⌜ (Within p (now (bytes .entry)) (now (out .entry)) → Within r (now (bytes .entry)) (now (out .entry))) ⌝ }
+{
+    if !has_room(out, p.next) {
+        return stay(p);
+    }
+    let found = decode(bytes, p.read);
+    match found {
+        Decoded::Whole(command, count) => {
+            let state = p.state;
+            let done = perform(state, command, nodes, versions, tally);
+            let line = done.line;
+            let after = done.state;
+            let next = line.print(out, p.next);
+            Played {
+                state: after,
+                read: p.read + count,
+                next,
+                more: true,
+            }
+        }
+        Decoded::Unknown => stay(p),
+        Decoded::Short => stay(p),
+        Decoded::End => stay(p),
+    }
+}
+
+// All commands that can be played: those that stand whole in `bytes` from `p.read` on, while `out` has room for a line from
+// `p.next` on.
+pub fn play(
+    p: Played,
+    bytes: &[u8],
+    nodes: &mut [u32],
+    versions: &mut [u32],
+    tally: &mut [u32],
+    out: &mut [u8],
+) -> Played
+    ensures { λ r. ⌜ playing r (now (nodes .exit)) (now (versions .exit)) (now (tally .exit)) (now (out .exit)) ≡ playOf (now (bytes .entry)) (playing p (now (nodes .entry)) (now (versions .entry)) (now (tally .entry)) (now (out .entry))) ⌝ }
+    ensures { λ r. ⌜ (Within p (now (bytes .entry)) (now (out .entry)) → Within r (now (bytes .entry)) (now (out .entry))) ⌝ }
+{
+    let mut at = p;
+    let mut left = bytes.len();
+    while 0 < left {
+        at = play_one(at, bytes, nodes, versions, tally, out);
+        if !at.more {
+            return at;
+        }
+        left -= 1;
+    }
+    at
+}
+
+pub fn rest(bytes: &[u8], read: usize, ended: bool) -> Rest
+    ensures { λ r. ⌜ r ≡ restOf (now (bytes .entry)) read ended ⌝ }
+{
+    let found = decode(bytes, read);
+    match found {
+        Decoded::Whole(_, _) => Rest::More,
+        Decoded::Unknown => Rest::Ends(Refusal::UnknownCommand),
+        Decoded::Short => {
+            if ended {
+                Rest::Ends(Refusal::CutShort)
+            } else {
+                Rest::More
+            }
+        }
+        Decoded::End => { if ended { Rest::Over } else { Rest::More } }
+    }
+}

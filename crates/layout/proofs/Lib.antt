@@ -1,0 +1,5 @@
+pub mod Known
+pub mod Laws
+pub mod Back
+pub mod Whole
+pub mod Written

@@ -1,0 +1,171 @@
+// The whole state in its words.
+ghost use mathlib.Core.Path.{_≡_};
+ghost use Prim.Native.Nat.{_+_};
+ghost use lib.ListN.{length, take, drop, set};
+ghost use mathlib.Core.List.{_++_};
+ghost use Rattle.model.specs.Layout.{limits};
+ghost use Rattle.process.specs.ProcessWords.{sizes};
+ghost use Rattle.layout.specs.StateWords.{headWords, allWords, stateWords, allFrom, stateFrom, allKnown, knownHead, isState, isStateAt};
+ghost use lib.Seq.{sets};
+use model::types::Counts;
+use model::types::Lengths;
+use model::types::Process;
+use model::types::State;
+use process::types::Sizes;
+use process::words::is_process;
+use process::words::process_in;
+use process::words::put_process;
+
+// Whether all processes have known numbers.
+fn all_known(words: &[u32]) -> bool
+    requires { ⌜ length (now words) ≡ sizes .state ⌝ }
+    ensures { λ r. ⌜ r ≡ allKnown (limits .processes) (drop (sizes .head) (now (words .entry))) ⌝ }
+{
+    let mut at = Sizes::HEAD;
+    let mut left = State::PROCESSES;
+    while 0 < left {
+        let end = at + Sizes::PROCESS;
+        if !is_process(&words[at..end]) {
+            return false;
+        }
+        at = end;
+        left -= 1;
+    }
+    true
+}
+
+// Whether the words are as many as a state's, of this layout, open or not.
+pub fn is_head(words: &[u32]) -> bool
+    ensures { λ r. ⌜ r ≡ knownHead (now (words .entry)) ⌝ }
+{
+    if words.len() != Sizes::STATE {
+        return false;
+    }
+    if words[0] != Sizes::VERSION {
+        return false;
+    }
+    words[1] < 2
+}
+
+// Whether the words are a state of this layout.
+pub fn is_state(words: &[u32]) -> bool
+    ensures { λ r. ⌜ r ≡ isState (now (words .entry)) ⌝ }
+{
+    if !is_head(words) {
+        return false;
+    }
+    all_known(words)
+}
+
+// The same of the head and one process: what a step of it reads.
+pub fn is_state_at(words: &[u32], process: u32) -> bool
+    ensures { λ r. ⌜ r ≡ isStateAt (now (words .entry)) process ⌝ }
+{
+    if !is_head(words) {
+        return false;
+    }
+    if State::PROCESSES <= process {
+        return true;
+    }
+    let at = Sizes::HEAD + Sizes::PROCESS * process as usize;
+    let end = at + Sizes::PROCESS;
+    is_process(&words[at..end])
+}
+
+// Nodes and versions in use.
+pub fn counts_in(words: &[u32]) -> Counts
+    requires { ⌜ length (now words) ≡ sizes .state ⌝ }
+    ensures { λ r. ⌜ r ≡ stateFrom (now (words .entry)) .counts ⌝ }
+{
+    Counts {
+        nodes: words[7],
+        versions: words[8],
+    }
+}
+
+// The processes, one after another.
+fn processes_in(words: &[u32]) -> [Process; 8]
+    requires { ⌜ length (now words) ≡ sizes .state ⌝ }
+    ensures { λ r. ⌜ r ≡ allFrom (limits .processes) (drop (sizes .head) (now (words .entry))) ⌝ }
+{
+    let mut process = [Process::idle(); 8];
+    let mut at = Sizes::HEAD;
+    let mut i = 0;
+    while i < State::PROCESSES {
+        let end = at + Sizes::PROCESS;
+        process[i as usize] = process_in(&words[at..end]);
+        at = end;
+        i += 1;
+    }
+    process
+}
+
+pub fn state_in(words: &[u32]) -> State
+    requires { ⌜ length (now words) ≡ sizes .state ⌝ }
+    ensures { λ r. ⌜ r ≡ stateFrom (now (words .entry)) ⌝ }
+{
+    let lengths = Lengths {
+        nodes: words[5],
+        versions: words[6],
+    };
+    let counts = counts_in(words);
+    let process = processes_in(words);
+    State {
+        opened: words[1] == 1,
+        processes: words[2],
+        limit: words[3],
+        events: words[4],
+        lengths,
+        counts,
+        process,
+    }
+}
+
+fn put_head(words: &mut [u32], s: State)
+    requires { ⌜ length (now words) ≡ sizes .state ⌝ }
+    ensures { λ r. ⌜ now (words .exit) ≡ sets (now (words .entry)) 0 (headWords s) ⌝ }
+{
+    words[0] = Sizes::VERSION;
+    words[1] = s.opened as u32;
+    words[2] = s.processes;
+    words[3] = s.limit;
+    words[4] = s.events;
+    words[5] = s.lengths.nodes;
+    words[6] = s.lengths.versions;
+    words[7] = s.counts.nodes;
+    words[8] = s.counts.versions;
+}
+
+fn put_processes(words: &mut [u32], process: [Process; 8])
+    requires { ⌜ length (now words) ≡ sizes .state ⌝ }
+    ensures { λ r. ⌜ now (words .exit) ≡ take (sizes .head) (now (words .entry)) ++ allWords process ⌝ }
+{
+    let mut at = Sizes::HEAD;
+    let mut i = 0;
+    while i < State::PROCESSES {
+        let end = at + Sizes::PROCESS;
+        let p = process[i as usize];
+        put_process(&mut words[at..end], p);
+        at = end;
+        i += 1;
+    }
+}
+
+pub fn put_state(words: &mut [u32], s: State)
+    requires { ⌜ length (now words) ≡ sizes .state ⌝ }
+    ensures { λ r. ⌜ now (words .exit) ≡ stateWords s ⌝ }
+{
+    let process = s.process;
+    put_head(words, s);
+    put_processes(words, process);
+}
+
+// The counts that an event leaves.
+pub fn put_event(words: &mut [u32], tick: u32, counts: Counts)
+    requires { ⌜ length (now words) ≡ sizes .state ⌝ }
+    ensures { λ r. ⌜ now (words .exit) ≡ set (set (set (now (words .entry)) 4 tick) 7 (counts .nodes)) 8 (counts .versions) ⌝ }
+{
+    words[4] = tick;
+    words[7] = counts.nodes;
+    words[8] = counts.versions;
+}

@@ -1,0 +1,100 @@
+-- On words that are a state every call is: decode, the store's call, encode. On the words of a state it is the store's call.
+use Prim.Native.Nat.{ℕ, _+_, _≤_, _<_}
+use mathlib.Core.Bool.{true}
+use mathlib.Core.List.{List}
+use mathlib.Core.Path.{_≡_, refl, sym, ap, _∙_}
+use native.Mathlib.Omega.{arith}
+use lib.ListN.{length, drop, length-set, length-drop}
+use lib.Seq.{length-take-le}
+use Rattle.model.specs.declared.types.Move.{Move}
+use Rattle.model.specs.declared.types.Move.the-variants.{Refuse, Wait, Go, Note, Commit, End}
+use Rattle.model.specs.declared.types.Permit.{Permit}
+use Rattle.model.specs.declared.types.Permit.the-variants.{Granted, Denied}
+use Rattle.model.specs.declared.types.Process.{Process}
+use Rattle.model.specs.declared.types.State.{State}
+use Rattle.model.specs.Layout.{Memory, levels, limits}
+use Rattle.model.specs.State.{processAt, memoryOf}
+use Rattle.model.specs.Phases.{Moved, turnOf}
+use Rattle.model.specs.Calls.{processAfter, Store, evented, storeAfter, Stepped, stepPermit, stepBy, stepOf, storeOf}
+use Rattle.refusals.proofs.Laws.{may-step}
+use Rattle.process.specs.ProcessWords.{sizes}
+use Rattle.layout.specs.StateWords.{stateWords, stateFrom, isState, startOf, part, written}
+use Rattle.layout.proofs.Laws.{process-at, state-back}
+use Rattle.process.proofs.RoundTrip.{process-long}
+use Rattle.layout.proofs.Back.{Remembers, state-from, state-known}
+use Rattle.layout.proofs.Written.{state-at, written-same, written-state}
+use Rattle.lent.specs.Calls.{StepIn, stepIn}
+use Rattle.lent.proofs.Laws.{state-long}
+
+-- a step's store, its state encoded
+abbrev pub stepEncoded : Stepped → StepIn
+stepEncoded r = record {
+  outcome = r .outcome;
+  words = stateWords (r .store .state);
+  nodes = r .store .nodes;
+  versions = r .store .versions;
+  tally = r .store .tally;
+}
+
+-- a process keeps a node for each level
+pub after-remembers : (tick : ℕ) (p : Process) (v : Move) → length (p .preds) ≡ levels → length (processAfter tick p v .preds) ≡ levels
+unfolding processAfter
+after-remembers tick p Refuse h = h
+after-remembers tick p Wait h = h
+after-remembers tick p (Go c) h = h
+after-remembers tick p (Note c) h = length-set (p .preds) (p .cursor .level) (p .cursor .pred) ∙ h
+after-remembers tick p (Commit c a) h = h
+after-remembers tick p (End a v e) h = refl
+
+module _ (w nodes versions tally : List ℕ) (i : ℕ) (known : isState w ≡ true) where
+  abbrev store : Store
+  store = storeOf (stateFrom w) nodes versions tally
+
+  same : written w i (stateFrom w) ≡ stateWords (stateFrom w)
+  same = written-same w i (state-at w i known) ∙ sym (state-back w known)
+
+  remembers : i < limits .processes → length (processAt (stateFrom w) i .preds) ≡ levels
+  remembers h =
+      let fits : startOf i + sizes .process ≤ length w = omega (arith, h, state-long w known) in
+      let long : length (part w i) ≡ sizes .process = length-take-le (sizes .process) (drop (startOf i) w) (rw length-drop (omega (arith, fits))) in
+      ap (λ p. length (p .preds)) (process-at w i h) ∙ length-take-le 6 (drop 13 (part w i)) (rw length-drop (omega (arith, long)))
+
+  moved : i < limits .processes → (v : Move) (m : Memory) → written w i (storeAfter store i v m .state) ≡ stateWords (storeAfter store i v m .state)
+  moved h v m = cases v
+    where
+      event : (v : Move) → written w i (evented store i v m .state) ≡ stateWords (evented store i v m .state)
+      event v =
+          let p = processAfter (stateFrom w .events + 1) (processAt (stateFrom w) i) v in
+          written-state w i p (m .counts) known h
+          (process-long p (after-remembers (stateFrom w .events + 1) (processAt (stateFrom w) i) v (remembers h)))
+
+      cases : (v : Move) → written w i (storeAfter store i v m .state) ≡ stateWords (storeAfter store i v m .state)
+      cases Refuse = same
+      cases Wait = event Wait
+      cases (Go c) = event (Go c)
+      cases (Note c) = event (Note c)
+      cases (Commit c a) = event (Commit c a)
+      cases (End a r e) = event (End a r e)
+
+  permitted : (p : Permit) (v : Moved) → stepPermit store i ≡ p → written w i (stepBy p store i v .store .state) ≡ stateWords (stepBy p store i v .store .state)
+  unfolding stepBy
+  permitted (Denied r) v e = same
+  permitted Granted v e =
+      let f = may-step store i refl e .start in
+      let l = f .lawful .processes in
+      moved (omega (arith, f .process)) (v .move) (v .memory)
+
+  abbrev turned : Moved
+  turned = turnOf (i + 1) (stateFrom w .events + 1) (processAt (stateFrom w) i) (memoryOf (stateFrom w) nodes versions)
+
+  -- decode, the store's step, encode
+  pub step-encoded : stepIn w nodes versions tally i ≡ stepEncoded (stepOf store i)
+  unfolding stepIn stepOf
+  step-encoded = simp (state-at w i known, permitted (stepPermit store i) turned refl)
+
+-- on the words of a state: the store's step, encoded
+pub step-of : (s : State) (nodes versions tally : List ℕ) (i : ℕ) → length (s .process) ≡ limits .processes → Remembers (s .process)
+    → stepIn (stateWords s) nodes versions tally i ≡ stepEncoded (stepOf (storeOf s nodes versions tally) i)
+step-of s nodes versions tally i eight six =
+    step-encoded (stateWords s) nodes versions tally i (state-known s eight six)
+    ∙ ap (λ s. stepEncoded (stepOf (storeOf s nodes versions tally) i)) (state-from s eight six)

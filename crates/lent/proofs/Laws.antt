@@ -1,0 +1,257 @@
+-- Steps and starts in place: what is left of one process, put into the words, is what the store's call leaves, encoded.
+use Prim.Native.Nat.{ℕ, _+_, _-_, _<_}
+use mathlib.Core.Bool.{Bool, true, false, _&&_, and-eq-true-iff}
+use mathlib.Core.List.{List}
+use mathlib.Core.Path.{_≡_, refl, sym, ap, _∙_}
+use native.Mathlib.Omega.{arith}
+use lib.ListN.{length, getD, take, drop}
+use lib.Seq.{getD-take, getD-drop}
+use borrow.Rule.Slice.PartMut.{putMid}
+use Rattle.model.specs.declared.types.Call.{Call}
+use Rattle.model.specs.declared.types.Counts.{Counts}
+use Rattle.model.specs.declared.types.Move.{Move}
+use Rattle.model.specs.declared.types.Permit.{Permit}
+use Rattle.model.specs.declared.types.Permit.the-variants.{Granted, Denied}
+use Rattle.model.specs.declared.types.Refusal.{Refusal}
+use Rattle.model.specs.declared.types.Refusal.the-variants.{Corrupt}
+use Rattle.model.specs.declared.types.Starting.{Starting}
+use Rattle.model.specs.declared.types.Stepping.{Stepping}
+use Rattle.model.specs.Layout.{Memory, limits}
+use Rattle.model.specs.Phases.{moved, turnOf}
+use Rattle.model.specs.State.{processAt, withEvent, lawfulStore}
+use Rattle.model.specs.Calls.{processAfter, begun, startBy, Store, storeOf, stepPermit, stepBy, stepOf}
+use Rattle.tables.specs.Room.{memory}
+use Rattle.phases.specs.Turn.{refuses}
+use Rattle.layout.specs.Head.{headerWords, headerOf}
+use Rattle.calls.specs.Advance.{Advance, advanceBy, advanceOf}
+use Rattle.calls.proofs.Laws.{stays, moves, step-stays, step-moves}
+use Rattle.process.specs.Numbers.{kindOf}
+use Rattle.process.specs.ProcessWords.{sizes, processWords}
+use Rattle.layout.specs.StateWords.{stateWords, stateFrom, knownHead, isState, isStateAt, startOf}
+use Rattle.layout.proofs.Laws.{process-at, state-facts, state-back, putProcess, putEvent, event-words}
+use Rattle.layout.proofs.Known.{by-none}
+use Rattle.layout.proofs.Whole.{put-part}
+use Rattle.layout.proofs.Written.{header-at, written-same, written-over}
+use Rattle.apply.specs.Leave.{LeftIn, standing, evented, leaveIn}
+use Rattle.lent.specs.Calls.{StartIn, startUnless, StepIn, stepWritten, lawfulIn, stepPermitIn, stepIn}
+
+-- ---- step
+
+-- the kind that the words of a process begin with
+pub kind-at : (w : List ℕ) (i j : ℕ) → j ≡ i → i < limits .processes
+    → processAt (stateFrom w) i .call .kind ≡ kindOf (getD w (startOf j) 0)
+kind-at w i j e h =
+    let zero : startOf i + 0 ≡ startOf j = omega (arith, e) in
+    ap (λ p. p .call .kind) (process-at w i h)
+    ∙ ap kindOf (getD-take (sizes .process) (drop (startOf i) w) 0 0 (omega arith) ∙ getD-drop (startOf i) w 0 0 ∙ ap (λ k. getD w k 0) zero)
+
+abbrev unchanged : Refusal → (words nodes versions tally : List ℕ) → StepIn
+unchanged r w nodes versions tally = record {
+  outcome = Stepping.Refused r;
+  words = w;
+  nodes = nodes;
+  versions = versions;
+  tally = tally;
+}
+
+and-false : (b : Bool) → b && false ≡ false
+and-false true = refl
+and-false false = refl
+
+and-true : (b : Bool) → b && true ≡ b
+and-true true = refl
+and-true false = refl
+
+denied-is : {q r : Refusal} → Denied q ≡ Denied r → q ≡ r
+denied-is e = ap refusalOf e
+  where
+    refusalOf : Permit → Refusal
+    refusalOf (Denied r) = r
+    refusalOf Granted = Corrupt
+
+-- what a step reads, lawful or not
+module _ (w nodes versions : List ℕ) (i : ℕ) where
+  headless : knownHead w ≡ false → isStateAt w i ≡ false
+  unfolding isStateAt
+  headless e = simp e
+
+  pub lawful-headless : knownHead w ≡ false → false ≡ lawfulIn w nodes versions i
+  lawful-headless e = simp (headless e)
+
+  pub lawful-unlawful : lawfulStore (stateFrom w) nodes versions ≡ false → false ≡ lawfulIn w nodes versions i
+  lawful-unlawful e = sym (ap (λ b. isStateAt w i && b) e ∙ and-false (isStateAt w i))
+
+  pub lawful-known : lawfulStore (stateFrom w) nodes versions ≡ true → isStateAt w i ≡ lawfulIn w nodes versions i
+  lawful-known e = sym (ap (λ b. isStateAt w i && b) e ∙ and-true (isStateAt w i))
+
+  pub lawful-state : lawfulIn w nodes versions i ≡ true → isStateAt w i ≡ true
+  lawful-state e = and-eq-true-iff (isStateAt w i) (lawfulStore (stateFrom w) nodes versions) .0 e .0
+
+module _ (w nodes versions tally : List ℕ) (i : ℕ) where
+  abbrev store : Store
+  store = storeOf (stateFrom w) nodes versions tally
+
+  -- ---- what is refused
+
+  pub permit-known : isStateAt w i ≡ true → stepPermit store i ≡ stepPermitIn w nodes versions tally i
+  unfolding stepPermitIn
+  permit-known e = simp e
+
+  pub permit-unknown : isStateAt w i ≡ false → Denied Corrupt ≡ stepPermitIn w nodes versions tally i
+  unfolding stepPermitIn
+  permit-unknown e = simp e
+
+  denied-corrupt : lawfulStore (stateFrom w) nodes versions ≡ false → stepPermit store i ≡ Denied Corrupt
+  unfolding stepPermit
+  denied-corrupt e = simp e
+
+  pub unlawful : lawfulIn w nodes versions i ≡ false → stepPermitIn w nodes versions tally i ≡ Denied Corrupt
+  unlawful e = cases (isStateAt w i) refl
+    where
+      cases : (b : Bool) → isStateAt w i ≡ b → stepPermitIn w nodes versions tally i ≡ Denied Corrupt
+      cases false k = sym (permit-unknown k)
+      cases true k = sym (permit-known k) ∙ denied-corrupt (sym (ap (λ b. b && lawfulStore (stateFrom w) nodes versions) k) ∙ e)
+
+  -- a step that is let pass finds a state in the words
+  pub passed : stepPermitIn w nodes versions tally i ≡ Granted → (isStateAt w i ≡ true) × (stepPermit store i ≡ Granted)
+  passed e = cases (isStateAt w i) refl
+    where
+      cases : (b : Bool) → isStateAt w i ≡ b → (isStateAt w i ≡ true) × (stepPermit store i ≡ Granted)
+      cases true k = (k, permit-known k ∙ e)
+      cases false k = let z : Denied Corrupt ≡ Granted = permit-unknown k ∙ e in (cc, cc)
+
+  unknown : isStateAt w i ≡ false → unchanged Corrupt w nodes versions tally ≡ stepIn w nodes versions tally i
+  unfolding stepIn
+  unknown e = simp e
+
+  in-words : isStateAt w i ≡ true → stepWritten w i (stepOf store i) ≡ stepIn w nodes versions tally i
+  unfolding stepIn
+  in-words known = simp known
+
+  denied : isStateAt w i ≡ true → (r : Refusal) → stepPermit store i ≡ Denied r
+      → unchanged r w nodes versions tally ≡ stepWritten w i (stepOf store i)
+  unfolding stepOf stepBy
+  denied known r e = simp (e, written-same w i known)
+
+  pub step-denied : (r : Refusal) → stepPermitIn w nodes versions tally i ≡ Denied r
+      → unchanged r w nodes versions tally ≡ stepIn w nodes versions tally i
+  step-denied r e = cases (isStateAt w i) refl
+    where
+      cases : (b : Bool) → isStateAt w i ≡ b → unchanged r w nodes versions tally ≡ stepIn w nodes versions tally i
+      cases true k = denied k r (permit-known k ∙ e) ∙ in-words k
+      cases false k = ap (λ r. unchanged r w nodes versions tally) (sym (denied-is (permit-unknown k ∙ e))) ∙ unknown k
+
+  -- ---- what is let pass
+
+  module _ (known : isStateAt w i ≡ true) where
+    -- the turn of the process that stands in its part of the words, and what its move leaves
+    module _
+        (events : ℕ)
+        (counts : Counts)
+        (v : Move)
+        (m : Memory)
+        (now : events ≡ stateFrom w .events)
+        (used : counts ≡ stateFrom w .counts)
+        (granted : stepPermit store i ≡ Granted)
+        (few : i < limits .processes)
+        (turned : moved m v ≡ turnOf (i + 1) (events + 1) (standing w (startOf i)) (memory nodes versions counts))
+      where
+        found : standing w (startOf i) ≡ processAt (stateFrom w) i
+        found = sym (process-at w i few)
+
+        advance : Advance
+        advance = advanceOf (i + 1) (stateFrom w .events + 1) (processAt (stateFrom w) i) (memory nodes versions (stateFrom w .counts)) tally
+
+        is : advanceBy (events + 1) (standing w (startOf i)) tally (moved m v) ≡ advance
+        unfolding advance advanceOf
+        is =
+            ap (advanceBy (events + 1) (standing w (startOf i)) tally) turned
+            ∙ ap (λ e. advanceOf (i + 1) (e + 1) (standing w (startOf i)) (memory nodes versions counts) tally) now
+            ∙ ap (λ p. advanceOf (i + 1) (stateFrom w .events + 1) p (memory nodes versions counts) tally) found
+            ∙ ap (λ k. advanceOf (i + 1) (stateFrom w .events + 1) (processAt (stateFrom w) i) (memory nodes versions k) tally) used
+
+        abbrev left : LeftIn → StepIn
+        left l = record { outcome = l .outcome; words = l .words; nodes = m .nodes; versions = m .versions; tally = l .tally }
+
+        abbrev leaving : LeftIn
+        leaving = leaveIn (events + 1) (m .counts) v w (startOf i) tally
+
+        -- refused: the store's step leaves the state
+        left-stays : refuses v ≡ true → left leaving ≡ stepWritten w i (stepOf store i)
+        unfolding advance advanceBy
+        left-stays e =
+            let same : _≡_ {A = List ℕ} (leaving .words) w = simp e in
+            ap (λ u. left (record { outcome = leaving .outcome; words = u; tally = leaving .tally })) (same ∙ sym (written-same w i known))
+            ∙ ap (λ a. stepWritten w i (stays store a)) is
+            ∙ ap (stepWritten w i) (step-stays store i i (stateFrom w .counts) refl refl granted advance refl (sym (ap (λ a. a .refused) is) ∙ e))
+
+        -- moved: its process, the events and the counts are written over
+        left-moves : refuses v ≡ false → left leaving ≡ stepWritten w i (stepOf store i)
+        unfolding advance advanceBy
+        left-moves e =
+            let p = processAfter (events + 1) (standing w (startOf i)) v in
+            let chosen : leaving .words ≡ evented w (startOf i) (events + 1) (m .counts) p = simp e in
+            let over = chosen ∙ ap (λ n. evented w (startOf i) (n + 1) (m .counts) p) now ∙ written-over w i p (m .counts) few in
+            ap (λ u. left (record { outcome = leaving .outcome; words = u; tally = leaving .tally })) over
+            ∙ ap (λ a. stepWritten w i (moves store i a)) is
+            ∙ ap (stepWritten w i) (step-moves store i i (stateFrom w .counts) refl refl granted advance refl (sym (ap (λ a. a .refused) is) ∙ e))
+
+        pub step-left : (l : LeftIn) → l ≡ leaving → left l ≡ stepIn w nodes versions tally i
+        step-left l e = ap left e ∙ cases (refuses v) refl ∙ in-words known
+          where
+            cases : (b : Bool) → refuses v ≡ b → left leaving ≡ stepWritten w i (stepOf store i)
+            cases true e = left-stays e
+            cases false e = left-moves e
+
+-- the header behind a known first word
+pub header-known : (w : List ℕ) → knownHead w ≡ true → headerOf (stateFrom w) ≡ take headerWords (drop 1 w)
+header-known w k = header-at w 8 (sym (by-none w 8 (knownHead w) refl k (omega arith)))
+
+-- ---- start
+
+module _ (w : List ℕ) (i : ℕ) (permit : Permit) (call : ℕ → Call) where
+  abbrev begins : StartIn
+  begins = startUnless w (startBy permit (stateFrom w) i (call (stateFrom w .events + 1)))
+
+  pub start-unknown : isState w ≡ false → record { outcome = Starting.Refused Corrupt; words = w } ≡ begins
+  start-unknown e = simp e
+
+  module _ (known : isState w ≡ true) where
+    pub start-denied : (r : Refusal) → permit ≡ Denied r → record { outcome = Starting.Refused r; words = w } ≡ begins
+    unfolding startBy
+    start-denied r e = simp (known, e, state-back w known)
+
+    begun-in : permit ≡ Granted
+        → _≡_ {A = StartIn} (record {
+          outcome = Starting.Started (stateFrom w .events + 1);
+          words = stateWords (withEvent (stateFrom w) i (stateFrom w .counts) (begun (call (stateFrom w .events + 1))));
+        })
+        begins
+    unfolding startBy
+    begun-in e = simp (known, e)
+
+    -- the process at its walk, put into its part, and the count of events
+    pub start-granted : (j events : ℕ) (counts : Counts) (p v : List ℕ) → permit ≡ Granted → events ≡ stateFrom w .events
+        → counts ≡ stateFrom w .counts → j ≡ i → i < limits .processes → p ≡ processWords (begun (call (events + 1)))
+        → v ≡ putEvent (putMid (startOf j) (startOf j + sizes .process - startOf j) w p) (events + 1) counts
+        → record { outcome = Starting.Started (events + 1); words = v } ≡ begins
+    start-granted j events counts p v e now used slot few is put =
+        let q = begun (call (stateFrom w .events + 1)) in
+        ap (λ v. record { outcome = Starting.Started (events + 1); words = v })
+        (put ∙ ap (λ p. putEvent (putMid (startOf j) (startOf j + sizes .process - startOf j) w p) (events + 1) counts) is)
+        ∙ ap (λ e. record {
+          outcome = Starting.Started (e + 1);
+          words = putEvent (putMid (startOf j) (startOf j + sizes .process - startOf j) w (processWords (begun (call (e + 1))))) (e + 1) counts;
+        })
+        now
+        ∙ ap (λ v. record { outcome = Starting.Started (stateFrom w .events + 1); words = v })
+        (ap (λ v. putEvent v (stateFrom w .events + 1) counts)
+        (put-part w (processWords q) (startOf j) ∙ ap (λ k. putProcess w k (processWords q)) slot)
+        ∙ ap (putEvent (putProcess w i (processWords q)) (stateFrom w .events + 1)) used
+        ∙ event-words w i q (stateFrom w .counts) known few)
+        ∙ begun-in e
+
+-- ---- the calls that change nothing
+
+pub state-long : (w : List ℕ) → isState w ≡ true → length w ≡ sizes .state
+state-long w k = state-facts w k .long

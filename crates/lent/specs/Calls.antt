@@ -1,0 +1,102 @@
+-- Each call on a state in words: decode, the store's call, encode. Words that are no state are refused 10, and nothing changes.
+use Prim.Native.Nat.{ℕ}
+use mathlib.Core.Bool.{Bool, _&&_}
+use mathlib.Core.List.{List}
+use lib.Dec.{eqb}
+use lib.ListN.{length}
+use Rattle.model.specs.declared.types.Opening.{Opening}
+use Rattle.model.specs.declared.types.Starting.{Starting}
+use Rattle.model.specs.declared.types.StartResult.{StartResult}
+use Rattle.model.specs.declared.types.Stepping.{Stepping}
+use Rattle.model.specs.declared.types.Looking.{Looking}
+use Rattle.model.specs.declared.types.Inspecting.{Inspecting}
+use Rattle.model.specs.declared.types.Status.{Status}
+use Rattle.model.specs.declared.types.Permit.{Permit}
+use Rattle.model.specs.declared.types.Permit.the-variants.{Denied}
+use Rattle.model.specs.declared.types.Refusal.the-variants.{Corrupt}
+use Rattle.model.specs.Choice.{if_then_else_}
+use Rattle.model.specs.Calls.{Opened, openOf, startOf, Stepped, storeOf, stepPermit, stepOf, lookOf, statusOf}
+use Rattle.model.specs.Inspection.{inspectOf}
+use Rattle.model.specs.State.{lawfulStore}
+use Rattle.model.specs.Requests.{Operation}
+use Rattle.process.specs.ProcessWords.{sizes}
+use Rattle.layout.specs.StateWords.{stateWords, stateFrom, isState, isStateAt, written}
+
+-- ---- open: whatever stood in the words, as long as there are enough of them
+
+pub record OpenIn : Type 0 where
+  pub outcome : Opening
+  pub words : List ℕ
+  pub nodes : List ℕ
+  pub versions : List ℕ
+
+abbrev pub openEncoded : Opened → OpenIn
+openEncoded o = record {
+  outcome = o .result .outcome;
+  words = stateWords (o .result .state);
+  nodes = o .nodes;
+  versions = o .versions;
+}
+
+unfoldable pub openIn : (words nodes versions : List ℕ) (processes limit : ℕ) → OpenIn
+openIn w nodes versions processes limit =
+    if eqb (length w) (sizes .state) then openEncoded (openOf nodes versions processes limit)
+    else record { outcome = Opening.Refused Corrupt; words = w; nodes = nodes; versions = versions }
+
+-- ---- start
+
+pub record StartIn : Type 0 where
+  pub outcome : Starting
+  pub words : List ℕ
+
+abbrev pub startEncoded : StartResult → StartIn
+startEncoded r = record { outcome = r .outcome; words = stateWords (r .state) }
+
+abbrev pub startUnless : (words : List ℕ) → StartResult → StartIn
+startUnless w r = if isState w then startEncoded r else record { outcome = Starting.Refused Corrupt; words = w }
+
+unfoldable pub startIn : (words nodes versions : List ℕ) (process : ℕ) → Operation → StartIn
+startIn w nodes versions i op = startUnless w (startOf (stateFrom w) nodes versions i op)
+
+-- ---- step: the head and the process that is turned are read and written, and no other word of the state
+
+pub record StepIn : Type 0 where
+  pub outcome : Stepping
+  pub words : List ℕ
+  pub nodes : List ℕ
+  pub versions : List ℕ
+  pub tally : List ℕ
+
+abbrev pub stepWritten : (words : List ℕ) → ℕ → Stepped → StepIn
+stepWritten w i r = record {
+  outcome = r .outcome;
+  words = written w i (r .store .state);
+  nodes = r .store .nodes;
+  versions = r .store .versions;
+  tally = r .store .tally;
+}
+
+-- what a step reads of the words is a state's, and lawful with these tables
+abbrev pub lawfulIn : (words nodes versions : List ℕ) (process : ℕ) → Bool
+lawfulIn w nodes versions i = isStateAt w i && lawfulStore (stateFrom w) nodes versions
+
+-- the refusals of a step, words that are no state first
+unfoldable pub stepPermitIn : (words nodes versions tally : List ℕ) (process : ℕ) → Permit
+stepPermitIn w nodes versions tally i =
+    if isStateAt w i then stepPermit (storeOf (stateFrom w) nodes versions tally) i else Denied Corrupt
+
+unfoldable pub stepIn : (words nodes versions tally : List ℕ) (process : ℕ) → StepIn
+stepIn w nodes versions tally i =
+    if isStateAt w i then stepWritten w i (stepOf (storeOf (stateFrom w) nodes versions tally) i)
+    else record { outcome = Stepping.Refused Corrupt; words = w; nodes = nodes; versions = versions; tally = tally }
+
+-- ---- the calls that change nothing
+
+unfoldable pub lookIn : (words nodes versions : List ℕ) (key back : ℕ) → Looking
+lookIn w nodes versions k back = if isState w then lookOf (stateFrom w) nodes versions k back else Looking.Refused Corrupt
+
+unfoldable pub inspectIn : (words nodes versions : List ℕ) → Inspecting
+inspectIn w nodes versions = if isState w then inspectOf (stateFrom w) nodes versions else Inspecting.Refused Corrupt
+
+unfoldable pub statusIn : (words : List ℕ) (process : ℕ) → Status
+statusIn w i = if isState w then statusOf (stateFrom w) i else Status.Refused Corrupt

@@ -1,0 +1,42 @@
+// Look, inspection and standing: the state is decoded, and nothing is written.
+ghost use mathlib.Core.Path.{_≡_};
+ghost use Rattle.lent.specs.Calls.{lookIn, inspectIn, statusIn};
+use layout::state::is_state;
+use layout::state::state_in;
+use model::types::Inspecting;
+use model::types::Looking;
+use model::types::Refusal;
+use model::types::Status;
+use queries::inspect::inspect;
+use queries::look::look;
+use queries::status::status;
+
+pub fn look_in(words: &[u32], nodes: &[u32], versions: &[u32], key: u64, back: u32) -> Looking
+    ensures { λ r. ⌜ r ≡ lookIn (now (words .entry)) (now (nodes .entry)) (now (versions .entry)) key back ⌝ }
+{
+    if !is_state(words) {
+        return Looking::Refused(Refusal::Corrupt);
+    }
+    let s = state_in(words);
+    look(s, nodes, versions, key, back)
+}
+
+pub fn inspect_in(words: &[u32], nodes: &[u32], versions: &[u32]) -> Inspecting
+    ensures { λ r. ⌜ r ≡ inspectIn (now (words .entry)) (now (nodes .entry)) (now (versions .entry)) ⌝ }
+{
+    if !is_state(words) {
+        return Inspecting::Refused(Refusal::Corrupt);
+    }
+    let s = state_in(words);
+    inspect(s, nodes, versions)
+}
+
+pub fn status_in(words: &[u32], process: u32) -> Status
+    ensures { λ r. ⌜ r ≡ statusIn (now (words .entry)) process ⌝ }
+{
+    if !is_state(words) {
+        return Status::Refused(Refusal::Corrupt);
+    }
+    let s = state_in(words);
+    status(s, process)
+}

@@ -1,0 +1,114 @@
+// One step of a process: the head and its words are read and written, and no other.
+ghost use mathlib.Core.Path.{_≡_};
+ghost use Prim.Native.Nat.{_≤_};
+ghost use Rattle.model.specs.Layout.{limits};
+ghost use Rattle.model.specs.declared.types.Permit.the-variants.{Granted};
+ghost use Rattle.lent.specs.Calls.{lawfulIn, stepIn, stepPermitIn};
+use apply::leave::leave;
+use layout::state::counts_in;
+use layout::state::is_head;
+use layout::state::is_state_at;
+use model::types::Kind;
+use model::types::Permit;
+use model::types::Refusal;
+use model::types::State;
+use model::types::Stepping;
+use process::numbers::kind_of;
+use process::types::Sizes;
+use refusals::lawful::lawful_store;
+use refusals::permit::step_permit;
+use transition::turn::turn;
+
+// A number past the last process has no words: its step is refused.
+fn step_past(
+    words: &[u32],
+    process: u32,
+    nodes: &[u32],
+    versions: &[u32],
+    tally: &[u32],
+) -> Stepping
+    requires { ⌜ limits .processes ≤ process ⌝ }
+    ensures { λ r. ⌜ record { outcome = r; words = now (words .entry); nodes = now (nodes .entry); versions = now (versions .entry); tally = now (tally .entry) } ≡ stepIn (now (words .entry)) (now (nodes .entry)) (now (versions .entry)) (now (tally .entry)) process ⌝ }
+{
+    if !is_state_at(words, process) {
+        return Stepping::Refused(Refusal::Corrupt);
+    }
+    let permit = step_permit(
+        &words[1..Sizes::HEAD],
+        Kind::Idle,
+        nodes,
+        versions,
+        tally,
+        process,
+    );
+    match permit {
+        Permit::Denied(refusal) => Stepping::Refused(refusal),
+        Permit::Granted => Stepping::Refused(Refusal::NoProcess),
+    }
+}
+
+// Whether the head and the process's words are those of a lawful state with these tables. The head before the process,
+// whose words then need not be kept.
+fn lawful_in(words: &[u32], process: u32, nodes: &[u32], versions: &[u32]) -> bool
+    ensures { λ r. ⌜ r ≡ lawfulIn (now (words .entry)) (now (nodes .entry)) (now (versions .entry)) process ⌝ }
+{
+    if !is_head(words) {
+        return false;
+    }
+    if !lawful_store(&words[1..Sizes::HEAD], nodes, versions) {
+        return false;
+    }
+    is_state_at(words, process)
+}
+
+// A step that is let pass: the turn of its process, and what that leaves.
+fn advance_in(
+    words: &mut [u32],
+    process: u32,
+    nodes: &mut [u32],
+    versions: &mut [u32],
+    tally: &mut [u32],
+) -> Stepping
+    requires { ⌜ stepPermitIn (now words) (now nodes) (now versions) (now tally) process ≡ Granted ⌝ }
+    ensures { λ r. ⌜ record { outcome = r; words = now (words .exit); nodes = now (nodes .exit); versions = now (versions .exit); tally = now (tally .exit) } ≡ stepIn (now (words .entry)) (now (nodes .entry)) (now (versions .entry)) (now (tally .entry)) process ⌝ }
+{
+    let at = Sizes::HEAD + Sizes::PROCESS * process as usize;
+    let end = at + Sizes::PROCESS;
+    let tick = words[4] + 1;
+    let held = counts_in(words);
+    let t = turn(&words[at..end], held, process + 1, tick, nodes, versions);
+    let mv = t.mv;
+    let counts = t.counts;
+    leave(words, at, tick, counts, mv, tally)
+}
+
+pub fn step_in(
+    words: &mut [u32],
+    process: u32,
+    nodes: &mut [u32],
+    versions: &mut [u32],
+    tally: &mut [u32],
+) -> Stepping
+    ensures { λ r. ⌜ record { outcome = r; words = now (words .exit); nodes = now (nodes .exit); versions = now (versions .exit); tally = now (tally .exit) } ≡ stepIn (now (words .entry)) (now (nodes .entry)) (now (versions .entry)) (now (tally .entry)) process ⌝ }
+{
+    if State::PROCESSES <= process {
+        return step_past(words, process, nodes, versions, tally);
+    }
+    if !lawful_in(words, process, nodes, versions) {
+        return Stepping::Refused(Refusal::Corrupt);
+    }
+    let at = Sizes::HEAD + Sizes::PROCESS * process as usize;
+    let kind = kind_of(words[at]);
+    let permit = step_permit(
+        &words[1..Sizes::HEAD],
+        kind,
+        nodes,
+        versions,
+        tally,
+        process,
+    );
+    match permit {
+        Permit::Denied(refusal) => Stepping::Refused(refusal),
+        Permit::Granted => advance_in(words, process, nodes, versions, tally),
+    }
+}

@@ -1,4 +1,0 @@
-// The refusals of every call, in document 01's order, by value.
-pub mod header;
-pub mod lawful;
-pub mod permit;

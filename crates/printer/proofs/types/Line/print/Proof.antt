@@ -1,0 +1,59 @@
+-- Where there is room, what the line says is written; else nothing changes.
+use Prim.Native.Nat.{ℕ, _+_, _≤_, _<_}
+use native.Mathlib.Omega.{arith}
+use lib.ListN.{length}
+use mir.Syntax.{w32, w64}
+use mir.Val.{Fits}
+use borrow.Author.Needs.{needs}
+use borrow.Author.Tests.{le-leb, lt-leb}
+use Rattle.printer.specs.Lines.{room, printOf}
+use Rattle.printer.specs.Sentences.{number}
+use Rattle.printer.proofs.Filling.{sentence-short}
+use Rattle.printer.proofs.types.Line.print.Statement.{statement}
+use Rattle.printer.proofs.types.Line.print.Tie as tie
+
+returns : tie.Need-returns
+unfolding printOf
+returns c =
+    let a = c .before .before .args in
+    let full : length (a .out .now) < a .at + room = omega arith in
+    (simp (lt-leb (a .at + room) (length (a .out .now)) full), λ h. h)
+
+sub-if2 : tie.Need-sub-if2
+sub-if2 c = search needs
+
+returns-2 : tie.Need-returns-2
+unfolding printOf
+returns-2 c =
+    let a = c .before .before .before .args in
+    let full : length (a .out .now) < a .at + room = omega arith in
+    (simp (lt-leb (a .at + room) (length (a .out .now)) full), λ h. h)
+
+sentence-of-requires : tie.Need-sentence-of-requires
+sentence-of-requires c κs = search needs
+
+-- no number has more digits than its type lets it have
+put-sentence-requires : tie.Need-put-sentence-requires
+put-sentence-requires c κs =
+    let s = c .sentence-of .result in
+    let wide : Fits w64 (s .key) = search needs in
+    let few : (i : ℕ) → Fits w32 (number s i) = λ i. search needs in
+    omega (arith, sentence-short s (wide .fits) (λ i. few i .fits))
+
+same-length : tie.Need-same-length
+same-length c = search needs
+
+returns-3 : tie.Need-returns-3
+unfolding printOf
+returns-3 c =
+    let d = c .before .before .before in
+    let a = d .before .before .before .before .before .args in
+    let spare : a .at + room ≤ length (a .out .now) = omega arith in
+    let e = rw (d .sentence-of .ensures .0) at (c .before .before .put-sentence .ensures) in
+    let kept = c .before .before .put-sentence .kept .0 in
+    (simp (le-leb (a .at + room) (length (a .out .now)) spare, e .end, e .bytes), λ h. omega arith)
+
+pub print-spec : {M : Type 1} → statement M
+print-spec =
+    tie.close
+    (tie.spec returns sub-if2 returns-2 sentence-of-requires put-sentence-requires same-length returns-3)

@@ -1,0 +1,5 @@
+pub mod Types
+pub mod Text
+pub mod Lines
+pub mod Sentences
+pub mod Answers

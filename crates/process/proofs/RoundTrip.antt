@@ -1,0 +1,126 @@
+-- Words that are a process are the words of the process that they are decoded to, and a process is decoded from its words.
+use Prim.Native.Nat.{ℕ, zero, suc, _≤_, _<_}
+use mathlib.Core.Bool.{Bool, true, false, _&&_, and-eq-true-iff}
+use mathlib.Core.List.{List, _++_}
+use mathlib.Core.Path.{_≡_, refl, sym, ap, _∙_}
+use native.Mathlib.Omega.{arith}
+use lib.Dec.{eqb, ltb}
+use lib.ListN.{length, getD, drop, length-drop}
+use lib.Seq.{take-all, sets}
+use borrow.Author.Tests.{ltb-true, eqb-true, eqb-false, lt-ltb}
+use Rattle.model.specs.declared.types.Process.{Process}
+use Rattle.model.specs.Layout.{wordSize, levels, lowHalf}
+use Rattle.model.proofs.Laws.{place-at, answer-at, place-below}
+use Rattle.model.proofs.Words.{low-joined, high-joined, joined-halves}
+use Rattle.process.specs.Numbers.{kindNumber, kindOf, phaseNumber, phaseOf}
+use Rattle.process.specs.ProcessWords.{sizes, processWords, processFrom, knownProcess, callWords, cursorWords, effectWords}
+use Rattle.model.specs.declared.types.Kind.{Kind}
+use Rattle.model.specs.declared.types.Kind.the-variants.{Idle, Put, Get}
+use Rattle.model.specs.declared.types.Phase.{Phase}
+use Rattle.model.specs.declared.types.Phase.the-variants.{Walk, Read, Seek, Lock, Check, Update, Make, Link, Release}
+use Rattle.model.specs.Numbers.{placeOf}
+use Rattle.process.proofs.Heads.{heads, heads-are, spelt}
+
+-- ---- numbers
+
+-- a test that holds of every number below k, computed once
+abbrev allBelow : (k : ℕ) → (ℕ → Bool) → Bool
+allBelow zero f = true
+allBelow (suc k) f = f k && allBelow k f
+
+pub below : (k : ℕ) (f : ℕ → Bool) → allBelow k f ≡ true → (n : ℕ) → n < k → f n ≡ true
+below zero f t n h = let z : _≡_ {A = ℕ} 0 1 = omega (arith, h) in cc
+below (suc k) f t n h = cases (below k f (and-eq-true-iff (f k) (allBelow k f) .0 t .1) n) (eqb n k) refl
+  where
+    cases : (n < k → f n ≡ true) → (b : Bool) → eqb n k ≡ b → f n ≡ true
+    cases smaller true e = ap f (eqb-true n k e) ∙ and-eq-true-iff (f k) (allBelow k f) .0 t .0
+    cases smaller false e = smaller (omega (arith, h, eqb-false n k e))
+
+kind-back : (n : ℕ) → n < 3 → kindNumber (kindOf n) ≡ n
+kind-back n h = eqb-true _ _ (below 3 (λ n. eqb (kindNumber (kindOf n)) n) refl n h)
+
+phase-back : (n : ℕ) → n < 9 → phaseNumber (phaseOf n) ≡ n
+phase-back n h = eqb-true _ _ (below 9 (λ n. eqb (phaseNumber (phaseOf n)) n) refl n h)
+
+pub kind-from : (k : Kind) → (kindOf (kindNumber k) ≡ k) × (ltb (kindNumber k) 3 ≡ true)
+kind-from Idle = (refl, refl)
+kind-from Put = (refl, refl)
+kind-from Get = (refl, refl)
+
+phase-from : (p : Phase) → (phaseOf (phaseNumber p) ≡ p) × (ltb (phaseNumber p) 9 ≡ true)
+phase-from Walk = (refl, refl)
+phase-from Read = (refl, refl)
+phase-from Seek = (refl, refl)
+phase-from Lock = (refl, refl)
+phase-from Check = (refl, refl)
+phase-from Update = (refl, refl)
+phase-from Make = (refl, refl)
+phase-from Link = (refl, refl)
+phase-from Release = (refl, refl)
+
+-- ---- from words and back
+
+known-facts : (w : List ℕ) → knownProcess w ≡ true
+    → (getD w 1 0 < wordSize) × (getD w 0 0 < 3) × (getD w 7 0 < 9) × (getD w 11 0 < 7)
+known-facts w k =
+    let a = and-eq-true-iff (ltb (getD w 1 0) wordSize && ltb (getD w 0 0) 3 && ltb (getD w 7 0) 9) (ltb (getD w 11 0) 7) .0 k in
+    let b = and-eq-true-iff (ltb (getD w 1 0) wordSize && ltb (getD w 0 0) 3) (ltb (getD w 7 0) 9) .0 (a .0) in
+    let c = and-eq-true-iff (ltb (getD w 1 0) wordSize) (ltb (getD w 0 0) 3) .0 (b .0) in
+    (ltb-true _ _ (c .0), ltb-true _ _ (c .1), ltb-true _ _ (b .1), ltb-true _ _ (a .1))
+
+pub process-back : (w : List ℕ) → length w ≡ sizes .process → knownProcess w ≡ true → processWords (processFrom w) ≡ w
+process-back w h k =
+    let f = known-facts w k in
+    let six : length (drop 13 w) ≤ 6 = rw length-drop (omega (arith, h)) in
+    simp (
+      low-joined (getD w 1 0) (getD w 2 0) (f .0),
+      high-joined (getD w 1 0) (getD w 2 0) (f .0),
+      kind-back (getD w 0 0) (f .1),
+      phase-back (getD w 7 0) (f .2),
+      place-at (getD w 11 0) (f .3),
+      take-all 6 (drop 13 w) six,
+    )
+    (sym (heads-are 13 0 w (omega (arith, h))))
+
+-- ---- to words and back: a process remembers a node at each level
+
+pub process-long : (p : Process) → length (p .preds) ≡ levels → length (processWords p) ≡ sizes .process
+process-long p h = simp h
+
+pub process-short : (p : Process) → length (processWords p) ≡ sizes .process → length (p .preds) ≡ levels
+process-short p h = omega (arith, h)
+
+-- its words with the remembered nodes by name
+by-name : (p : Process) → length (p .preds) ≡ levels → processWords (record {
+  call = p .call;
+  cursor = p .cursor;
+  effect = p .effect;
+  preds = heads 6 0 (p .preds);
+}) ≡ processWords p
+by-name p h = ap (λ preds. processWords (record { call = p .call; cursor = p .cursor; effect = p .effect; preds = preds })) (spelt 6 (p .preds) h)
+
+pub process-from : (p : Process) → length (p .preds) ≡ levels → processFrom (processWords p) ≡ p
+process-from p h =
+    ap processFrom (sym (by-name p h))
+    ∙ simp (joined-halves (p .call .key), kind-from (p .call .kind) .0, phase-from (p .cursor .phase) .0, answer-at (p .effect .answer), spelt 6 (p .preds) h)
+
+pub process-known : (p : Process) → knownProcess (processWords p) ≡ true
+process-known p = simp (
+  lt-ltb (lowHalf (p .call .key)) wordSize (omega arith),
+  kind-from (p .call .kind) .1,
+  phase-from (p .cursor .phase) .1,
+  lt-ltb (placeOf (p .effect .answer)) 7 (place-below (p .effect .answer)),
+)
+
+-- ---- all parts written
+
+abbrev writtenOver : (w : List ℕ) → Process → (preds : List ℕ) → List ℕ
+writtenOver w p preds =
+    sets (sets (sets (sets w 0 (callWords (p .call))) 7 (cursorWords (p .cursor))) 11 (effectWords (p .effect))) 13 preds
+
+pub over-written : (w : List ℕ) (p : Process) → length w ≡ sizes .process → length (p .preds) ≡ 6 → writtenOver w p
+    (p .preds) ≡ processWords p
+over-written w p h k =
+    ap (λ w. writtenOver w p (p .preds)) (sym (spelt (sizes .process) w h))
+    ∙ ap (writtenOver (heads (sizes .process) 0 w) p) (sym (spelt 6 (p .preds) k))
+    ∙ ap (λ preds. callWords (p .call) ++ cursorWords (p .cursor) ++ effectWords (p .effect) ++ preds) (spelt 6 (p .preds) k)

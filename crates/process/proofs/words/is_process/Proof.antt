@@ -1,0 +1,43 @@
+-- The three tests, one after another.
+use native.Mathlib.Omega.{arith}
+use lib.ListN.{getD}
+use Rattle.model.specs.Layout.{wordSize}
+use borrow.Author.Tests.{lt-ltb, le-ltb}
+use borrow.Author.Needs.{needs}
+use Rattle.process.proofs.words.is_process.Statement.{statement}
+use Rattle.process.proofs.words.is_process.Tie as tie
+
+shared-slice-read-if1 : tie.Need-shared-slice-read-if1
+shared-slice-read-if1 c = search needs
+
+returns : tie.Need-returns
+returns c =
+    let w = c .before .before .args .w .now in
+    simp (lt-ltb (getD w 1 0) wordSize (omega (arith, c .before .shared-slice-known .given 1)), le-ltb (getD w 0 0) 3 (omega arith))
+
+shared-slice-read-if2 : tie.Need-shared-slice-read-if2
+shared-slice-read-if2 c = search needs
+
+returns-2 : tie.Need-returns-2
+returns-2 c =
+    let w = c .before .before .before .before .args .w .now in
+    simp (lt-ltb (getD w 1 0) wordSize (omega (arith, c .before .shared-slice-known2 .given 1)), lt-ltb (getD w 0 0) 3 (omega arith), le-ltb (getD w 7 0) 9 (omega arith))
+
+shared-slice-read-result : tie.Need-shared-slice-read-result
+shared-slice-read-result c = search needs
+
+returns-3 : tie.Need-returns-3
+returns-3 c =
+    let w = c .before .before .before .before .before .args .w .now in
+    simp (lt-ltb (getD w 1 0) wordSize (omega (arith, c .shared-slice-known3 .given 1)), lt-ltb (getD w 0 0) 3 (omega arith), lt-ltb (getD w 7 0) 9 (omega arith))
+
+pub is-process-spec : {M : Type 1} → statement M
+is-process-spec =
+    tie.close
+    (tie.spec
+    shared-slice-read-if1
+    returns
+    shared-slice-read-if2
+    returns-2
+    shared-slice-read-result
+    returns-3)

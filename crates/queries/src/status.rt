@@ -1,0 +1,37 @@
+// Document 01's standing.
+ghost use mathlib.Core.Path.{_≡_};
+ghost use Rattle.model.specs.Calls.{standing, statusOf};
+use layout::head::header_of;
+use model::types::Kind;
+use model::types::Permit;
+use model::types::Process;
+use model::types::State;
+use model::types::Status;
+use refusals::permit::status_permit;
+
+fn standing(p: Process) -> Status
+    ensures { λ r. ⌜ r ≡ standing (p .call .kind) p ⌝ }
+{
+    let call = p.call;
+    let kind = call.kind;
+    match kind {
+        Kind::Idle => Status::Idle,
+        Kind::Put => Status::Running(Kind::Put, call.start, p.effect.tick),
+        Kind::Get => Status::Running(Kind::Get, call.start, p.effect.tick),
+    }
+}
+
+pub fn status(s: State, process: u32) -> Status
+    ensures { λ r. ⌜ r ≡ statusOf s process ⌝ }
+{
+    let h = header_of(s);
+    let permit = status_permit(&h, process);
+    match permit {
+        Permit::Denied(refusal) => Status::Refused(refusal),
+        Permit::Granted => {
+            let i = process as usize;
+            let p = s.process[i];
+            standing(p)
+        }
+    }
+}

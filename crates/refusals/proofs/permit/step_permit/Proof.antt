@@ -1,0 +1,122 @@
+-- The refusals one after another; the kind counts only for a number below the count.
+use mathlib.Core.Path.{sym, ap, _∙_}
+use lib.Dec.{leb}
+use lib.ListN.{getD}
+use borrow.Author.Tests.{not-true, not-false, le-leb, lt-leb, eq-eqb, ne-eqb}
+use Rattle.refusals.proofs.Laws.{step-kind}
+use borrow.Author.Needs.{needs}
+use Rattle.refusals.proofs.permit.step_permit.Statement.{statement}
+use Rattle.refusals.proofs.permit.step_permit.Tie as tie
+
+lawful-store-requires : tie.Need-lawful-store-requires
+lawful-store-requires c κs = search needs
+
+returns : tie.Need-returns
+returns c =
+    λ s e.
+    let a = c .before .before .before .before .before .before .args in
+    let k = step-kind s (a .nodes .now) (a .versions .now) (a .process) (a .kind) (e .found) in
+    simp (
+      k,
+      sym (c .before .lawful-store .ensures s (e .same)) ∙ not-true _ (c .if1 .taken),
+    )
+
+cast-if2 : tie.Need-cast-if2
+cast-if2 c = search needs
+
+returns-2 : tie.Need-returns-2
+returns-2 c =
+    λ s e.
+    let a = c .before .before .before .before .before .before .before .args in
+    let k = step-kind s (a .nodes .now) (a .versions .now) (a .process) (a .kind) (e .found) in
+    simp (
+      k,
+      sym (c .before .before .lawful-store .ensures s (e .same)) ∙ not-false _ (c .before .if1 .left),
+      ne-eqb _ _ (c .if2 .taken),
+    )
+
+shared-slice-read-if3 : tie.Need-shared-slice-read-if3
+shared-slice-read-if3 c = search needs
+
+returns-3 : tie.Need-returns-3
+returns-3 c =
+    λ s e.
+    let a = c .before .before .before .before .before .before .before .before .before .args in
+    let k = step-kind s (a .nodes .now) (a .versions .now) (a .process) (a .kind) (e .found) in
+    simp (
+      k,
+      sym (c .before .before .before .before .lawful-store .ensures s (e .same))
+          ∙ not-false _ (c .before .before .before .if1 .left),
+      eq-eqb _ _ (c .before .before .if2 .left),
+      ap (λ h. leb (getD h 1 0) (a .process)) (e .same) ∙ le-leb _ _ (c .if3 .taken),
+    )
+
+is-idle-requires : tie.Need-is-idle-requires
+is-idle-requires c κs = search needs
+
+returns-4 : tie.Need-returns-4
+returns-4 c =
+    λ s e.
+    let a = c .before .before .before .before .before .before .before .before .before .before .before .args in
+    let k = step-kind s (a .nodes .now) (a .versions .now) (a .process) (a .kind) (e .found) in
+    simp (
+      k,
+      sym (c .before .before .before .before .before .before .lawful-store .ensures s (e .same))
+          ∙ not-false _ (c .before .before .before .before .before .if1 .left),
+      eq-eqb _ _ (c .before .before .before .before .if2 .left),
+      ap (λ h. leb (getD h 1 0) (a .process)) (e .same) ∙ lt-leb _ _ (c .before .before .if3 .left),
+      sym (c .before .is-idle .ensures) ∙ c .if4 .taken,
+    )
+
+shared-slice-read-if5 : tie.Need-shared-slice-read-if5
+shared-slice-read-if5 c = search needs
+
+shared-slice-read-if5-2 : tie.Need-shared-slice-read-if5-2
+shared-slice-read-if5-2 c = search needs
+
+returns-5 : tie.Need-returns-5
+returns-5 c =
+    λ s e.
+    let a = c .before .before .before .before .before .before .before .before .before .before .before .before .before .before .args in
+    let k = step-kind s (a .nodes .now) (a .versions .now) (a .process) (a .kind) (e .found) in
+    simp (
+      k,
+      sym (c .before .before .before .before .before .before .before .before .before .lawful-store .ensures s (e .same))
+          ∙ not-false _ (c .before .before .before .before .before .before .before .before .if1 .left),
+      eq-eqb _ _ (c .before .before .before .before .before .before .before .if2 .left),
+      ap (λ h. leb (getD h 1 0) (a .process)) (e .same) ∙ lt-leb _ _ (c .before .before .before .before .before .if3 .left),
+      sym (c .before .before .before .before .is-idle .ensures) ∙ c .before .before .before .if4 .left,
+      ap (λ h. leb (getD h 2 0) (getD h 3 0)) (e .same) ∙ le-leb _ _ (c .if5 .taken),
+    )
+
+returns-6 : tie.Need-returns-6
+returns-6 c =
+    λ s e.
+    let a = c .before .before .before .before .before .before .before .before .before .before .before .before .before .before .args in
+    let k = step-kind s (a .nodes .now) (a .versions .now) (a .process) (a .kind) (e .found) in
+    simp (
+      k,
+      sym (c .before .before .before .before .before .before .before .before .before .lawful-store .ensures s (e .same))
+          ∙ not-false _ (c .before .before .before .before .before .before .before .before .if1 .left),
+      eq-eqb _ _ (c .before .before .before .before .before .before .before .if2 .left),
+      ap (λ h. leb (getD h 1 0) (a .process)) (e .same) ∙ lt-leb _ _ (c .before .before .before .before .before .if3 .left),
+      sym (c .before .before .before .before .is-idle .ensures) ∙ c .before .before .before .if4 .left,
+      ap (λ h. leb (getD h 2 0) (getD h 3 0)) (e .same) ∙ lt-leb _ _ (c .if5 .left),
+    )
+
+pub step-permit-spec : {M : Type 1} → statement M
+step-permit-spec =
+    tie.close
+    (tie.spec
+    lawful-store-requires
+    returns
+    cast-if2
+    returns-2
+    shared-slice-read-if3
+    returns-3
+    is-idle-requires
+    returns-4
+    shared-slice-read-if5
+    shared-slice-read-if5-2
+    returns-5
+    returns-6)

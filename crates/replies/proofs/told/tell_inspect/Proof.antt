@@ -1,0 +1,41 @@
+-- Each outcome by its case.
+use Rattle.replies.specs.Told.{inspectTold}
+use borrow.Author.Needs.{needs}
+use Rattle.replies.proofs.told.tell_inspect.Statement.{statement}
+use Rattle.replies.proofs.told.tell_inspect.Tie as tie
+
+enum-known-outcome : tie.Need-enum-known-outcome
+enum-known-outcome c = search needs
+
+number-of-requires : tie.Need-number-of-requires
+number-of-requires c κs = search needs
+
+enum-told : tie.Need-enum-told
+enum-told c = search needs
+
+enum-known-outcome-2 : tie.Need-enum-known-outcome-2
+enum-known-outcome-2 c = search needs
+
+returns : tie.Need-returns
+unfolding inspectTold
+returns c = simp (c .number-of .ensures, c .before .before .before .outcome .given .1)
+
+returns-2 : tie.Need-returns-2
+unfolding inspectTold
+returns-2 c = simp (c .before .enum-told .given .1)
+
+returns-3 : tie.Need-returns-3
+unfolding inspectTold
+returns-3 c = simp (c .before .before .outcome2 .given .1)
+
+pub tell-inspect-spec : {M : Type 1} → statement M
+tell-inspect-spec =
+    tie.close
+    (tie.spec
+    enum-known-outcome
+    number-of-requires
+    enum-told
+    enum-known-outcome-2
+    returns
+    returns-2
+    returns-3)

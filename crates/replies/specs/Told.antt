@@ -1,0 +1,61 @@
+-- What C is told of an outcome: 0 or the refusal's number, and answer words, all 0 where the call is refused.
+use Prim.Native.Nat.{ℕ}
+use mathlib.Core.List.{List, [], _∷_}
+use lib.ListN.{replicate}
+use Rattle.model.specs.declared.types.Finish.{Finish}
+use Rattle.model.specs.declared.types.Refusal.{Refusal}
+use Rattle.model.specs.declared.types.Opening.{Opening}
+use Rattle.model.specs.declared.types.Starting.{Starting}
+use Rattle.model.specs.declared.types.Stepping.{Stepping}
+use Rattle.model.specs.declared.types.Looking.{Looking}
+use Rattle.model.specs.declared.types.Inspecting.{Inspecting}
+use Rattle.model.specs.declared.types.Status.{Status}
+use Rattle.model.specs.Numbers.{numberOf, placeOf}
+use Rattle.process.specs.Numbers.{kindNumber}
+
+pub record Told : Type 0 where
+  pub number : ℕ
+  pub answer : List ℕ
+
+abbrev pub refused : (words : ℕ) → Refusal → Told
+refused n r = record { number = numberOf r; answer = replicate n 0 }
+
+abbrev pub accepted : List ℕ → Told
+accepted words = record { number = 0; answer = words }
+
+unfoldable pub openTold : Opening → ℕ
+openTold (Opening.Refused r) = numberOf r
+openTold Opening.Opened = 0
+
+-- the tick
+unfoldable pub startTold : Starting → Told
+startTold (Starting.Refused r) = refused 1 r
+startTold (Starting.Started t) = accepted (t ∷ [])
+
+-- on 0, wait 1 or done 2, and the tick; where done, "kind, answer, value, stamp [..] and the ticks of start, effect"
+abbrev pub finishWords : Finish → List ℕ
+finishWords f =
+    2 ∷ f .finish ∷ kindNumber (f .kind) ∷ placeOf (f .answer) ∷ f .value ∷ f .timestamp ∷ f .start ∷ f .effect ∷ []
+
+unfoldable pub stepTold : Stepping → Told
+stepTold (Stepping.Refused r) = refused 8 r
+stepTold (Stepping.Moved t) = accepted (0 ∷ t ∷ replicate 6 0)
+stepTold (Stepping.Waited t) = accepted (1 ∷ t ∷ replicate 6 0)
+stepTold (Stepping.Finished f) = accepted (finishWords f)
+
+-- value and stamp
+unfoldable pub lookTold : Looking → Told
+lookTold (Looking.Refused r) = refused 2 r
+lookTold (Looking.Shown v) = accepted (v .value ∷ v .timestamp ∷ [])
+
+-- sound 0, or fault 1 with "level and node reached"
+unfoldable pub inspectTold : Inspecting → Told
+inspectTold (Inspecting.Refused r) = refused 3 r
+inspectTold Inspecting.Sound = accepted (replicate 3 0)
+inspectTold (Inspecting.Fault level node) = accepted (1 ∷ level ∷ node ∷ [])
+
+-- "idle, or kind, start tick and effect tick"
+unfoldable pub statusTold : Status → Told
+statusTold (Status.Refused r) = refused 3 r
+statusTold Status.Idle = accepted (replicate 3 0)
+statusTold (Status.Running kind start effect) = accepted (kindNumber kind ∷ start ∷ effect ∷ [])

@@ -1,0 +1,2 @@
+// An outcome as a number to return and answer words, for callers that have no enums.
+pub mod told;

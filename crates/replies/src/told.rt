@@ -1,0 +1,132 @@
+// What C is told of an outcome: the number to return, and the answer words.
+ghost use mathlib.Core.Path.{_≡_};
+ghost use mathlib.Core.List.{[], _∷_};
+ghost use Rattle.replies.specs.Told.{openTold, startTold, finishWords, stepTold, lookTold, inspectTold, statusTold};
+use model::numbers::number_of;
+use model::numbers::place_of;
+use model::types::Finish;
+use model::types::Inspecting;
+use model::types::Looking;
+use model::types::Opening;
+use model::types::Starting;
+use model::types::Status;
+use model::types::Stepping;
+use process::numbers::kind_number;
+
+pub fn tell_open(outcome: Opening) -> u32
+    ensures { λ r. ⌜ r ≡ openTold outcome ⌝ }
+{
+    match outcome {
+        Opening::Refused(refusal) => number_of(refusal),
+        Opening::Opened => 0,
+    }
+}
+
+pub fn tell_start(outcome: Starting, tick: &mut u32) -> u32
+    ensures { λ r. ⌜ record { number = r; answer = now (tick .exit) ∷ [] } ≡ startTold outcome ⌝ }
+{
+    match outcome {
+        Starting::Refused(refusal) => {
+            *tick = 0;
+            number_of(refusal)
+        }
+        Starting::Started(t) => {
+            *tick = t;
+            0
+        }
+    }
+}
+
+// What a finishing step tells.
+fn finish_words(f: Finish) -> [u32; 8]
+    ensures { λ r. ⌜ r ≡ finishWords f ⌝ }
+{
+    let kind = f.kind;
+    let answer = f.answer;
+    [
+        2,
+        f.finish,
+        kind_number(kind),
+        place_of(answer),
+        f.value,
+        f.timestamp,
+        f.start,
+        f.effect,
+    ]
+}
+
+pub fn tell_step(outcome: Stepping, answer: &mut [u32; 8]) -> u32
+    ensures { λ r. ⌜ record { number = r; answer = now (answer .exit) } ≡ stepTold outcome ⌝ }
+{
+    match outcome {
+        Stepping::Refused(refusal) => {
+            *answer = [0; 8];
+            number_of(refusal)
+        }
+        Stepping::Moved(tick) => {
+            *answer = [0, tick, 0, 0, 0, 0, 0, 0];
+            0
+        }
+        Stepping::Waited(tick) => {
+            *answer = [1, tick, 0, 0, 0, 0, 0, 0];
+            0
+        }
+        Stepping::Finished(finish) => {
+            *answer = finish_words(finish);
+            0
+        }
+    }
+}
+
+pub fn tell_look(outcome: Looking, answer: &mut [u32; 2]) -> u32
+    ensures { λ r. ⌜ record { number = r; answer = now (answer .exit) } ≡ lookTold outcome ⌝ }
+{
+    match outcome {
+        Looking::Refused(refusal) => {
+            *answer = [0; 2];
+            number_of(refusal)
+        }
+        Looking::Shown(version) => {
+            *answer = [version.value, version.timestamp];
+            0
+        }
+    }
+}
+
+pub fn tell_inspect(outcome: Inspecting, answer: &mut [u32; 3]) -> u32
+    ensures { λ r. ⌜ record { number = r; answer = now (answer .exit) } ≡ inspectTold outcome ⌝ }
+{
+    match outcome {
+        Inspecting::Refused(refusal) => {
+            *answer = [0; 3];
+            number_of(refusal)
+        }
+        Inspecting::Sound => {
+            *answer = [0; 3];
+            0
+        }
+        Inspecting::Fault(level, node) => {
+            *answer = [1, level, node];
+            0
+        }
+    }
+}
+
+pub fn tell_status(outcome: Status, answer: &mut [u32; 3]) -> u32
+    ensures { λ r. ⌜ record { number = r; answer = now (answer .exit) } ≡ statusTold outcome ⌝ }
+{
+    match outcome {
+        Status::Refused(refusal) => {
+            *answer = [0; 3];
+            number_of(refusal)
+        }
+        Status::Idle => {
+            *answer = [0; 3];
+            0
+        }
+        Status::Running(kind, start, effect) => {
+            *answer = [kind_number(kind), start, effect];
+            0
+        }
+    }
+}

@@ -1,0 +1,122 @@
+// The core: one step of one call, in the nineteen words of its process. Each phase reads what it needs of them.
+ghost use mathlib.Core.Path.{_≡_};
+ghost use lib.ListN.{length};
+ghost use Rattle.model.specs.Phases.{phaseOf, turnOf};
+ghost use Rattle.tables.specs.Room.{Lent, memory};
+ghost use Rattle.phases.specs.Turn.{Ready, leaves};
+ghost use Rattle.process.specs.ProcessWords.{sizes, processFrom};
+use crate::lawful::lawful;
+use model::types::Counts;
+use model::types::Move;
+use model::types::Phase;
+use phases::lock::acquire;
+use phases::lock::check;
+use phases::lock::release;
+use phases::search::read;
+use phases::search::seek;
+use phases::search::walk;
+use phases::types::Turned;
+use process::words::call_in;
+use process::words::cursor_in;
+use process::words::effect_in;
+use process::words::preds_in;
+use writes::put::link;
+use writes::put::make;
+use writes::put::update;
+
+// The step of the call's phase.
+fn run(
+    w: &[u32],
+    counts: Counts,
+    holder: u32,
+    tick: u32,
+    nodes: &mut [u32],
+    versions: &mut [u32],
+) -> Turned
+    requires { ⌜ length (now w) ≡ sizes .process ⌝ }
+    requires { ⌜ Ready (now nodes) (counts .nodes) (processFrom (now w) .cursor) ⌝ }
+    requires { ⌜ Lent (now nodes) (now versions) counts ⌝ }
+    ensures { λ r. ⌜ leaves r (now (nodes .exit)) (now (versions .exit)) ≡ phaseOf (processFrom (now (w .entry)) .cursor .phase) holder tick (processFrom (now (w .entry))) (memory (now (nodes .entry)) (now (versions .entry)) counts) ⌝ }
+{
+    let c = cursor_in(w);
+    let phase = c.phase;
+    let used = counts.nodes;
+    match phase {
+        Phase::Walk => {
+            let call = call_in(w);
+            Turned {
+                mv: walk(call, c, tick, used, nodes),
+                counts,
+            }
+        }
+        Phase::Read => Turned {
+            mv: read(c, tick, used, counts.versions, nodes, versions),
+            counts,
+        },
+        Phase::Seek => {
+            let call = call_in(w);
+            Turned {
+                mv: seek(call, c, used, nodes),
+                counts,
+            }
+        }
+        Phase::Lock => Turned {
+            mv: acquire(c, holder, nodes),
+            counts,
+        },
+        Phase::Check => {
+            let call = call_in(w);
+            Turned {
+                mv: check(call, c, used, nodes),
+                counts,
+            }
+        }
+        Phase::Update => {
+            let call = call_in(w);
+            update(call, c, counts, nodes, versions)
+        }
+        Phase::Make => {
+            let call = call_in(w);
+            make(call, c, counts, nodes, versions)
+        }
+        Phase::Link => Turned {
+            mv: link(c, used, nodes),
+            counts,
+        },
+        Phase::Release => {
+            let call = call_in(w);
+            let e = effect_in(w);
+            let preds = preds_in(w);
+            Turned {
+                mv: release(call, c, e, used, preds, nodes),
+                counts,
+            }
+        }
+    }
+}
+
+// One step of a call: `holder` is the process's number plus 1, `tick` that of this event.
+pub fn turn(
+    w: &[u32],
+    counts: Counts,
+    holder: u32,
+    tick: u32,
+    nodes: &mut [u32],
+    versions: &mut [u32],
+) -> Turned
+    requires { ⌜ length (now w) ≡ sizes .process ⌝ }
+    requires { ⌜ Lent (now nodes) (now versions) counts ⌝ }
+    ensures { λ r. ⌜ leaves r (now (nodes .exit)) (now (versions .exit)) ≡ turnOf holder tick (processFrom (now (w .entry))) (memory (now (nodes .entry)) (now (versions .entry)) counts) ⌝ }
+{
+    let call = call_in(w);
+    let c = cursor_in(w);
+    let e = effect_in(w);
+    if lawful(call, c, e, counts.nodes) {
+        run(w, counts, holder, tick, nodes, versions)
+    } else {
+        Turned {
+            mv: Move::Refuse,
+            counts,
+        }
+    }
+}
