@@ -14,7 +14,7 @@ use Rattle.model.specs.declared.types.Move.the-variants.{Refuse, Wait, Go}
 use Rattle.model.specs.declared.types.Refusal.the-variants.{Damaged}
 use Rattle.model.specs.declared.types.Stepping.{Stepping}
 use Rattle.model.specs.Calls.{processAfter, outcomeOf, tallyAfter}
-use Rattle.phases.specs.Turn.{refuses}
+use Rattle.model.specs.Phases.{refuses}
 use Rattle.process.specs.ProcessWords.{sizes, cursorWords, processWords, processFrom, knownProcess}
 use Rattle.process.proofs.RoundTrip.{process-back}
 use Rattle.layout.proofs.Laws.{putEvent}

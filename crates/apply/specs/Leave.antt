@@ -9,7 +9,7 @@ use Rattle.model.specs.declared.types.Process.{Process}
 use Rattle.model.specs.declared.types.Stepping.{Stepping}
 use Rattle.model.specs.Choice.{if_then_else_}
 use Rattle.model.specs.Calls.{processAfter, outcomeOf, tallyAfter}
-use Rattle.phases.specs.Turn.{refuses}
+use Rattle.model.specs.Phases.{refuses}
 use Rattle.process.specs.ProcessWords.{sizes, processWords, processFrom}
 
 pub record LeftIn : Type 0 where

@@ -5,7 +5,7 @@ ghost use Prim.Native.Nat.{_+_, _≤_};
 ghost use lib.ListN.{length, take, drop};
 ghost use Rattle.model.specs.declared.types.Move.the-variants.{End};
 ghost use Rattle.model.specs.Layout.{limits, topLevel};
-ghost use Rattle.phases.specs.Turn.{refuses};
+ghost use Rattle.model.specs.Phases.{refuses};
 ghost use Rattle.process.specs.ProcessWords.{sizes, knownProcess};
 ghost use Rattle.apply.specs.Leave.{standing, leaveIn};
 use crate::changes::apply_commit;

@@ -5,30 +5,20 @@ use mathlib.Core.List.{List}
 use mathlib.Core.Path.{_≡_, refl, sym, ap, _∙_}
 use Rattle.model.specs.declared.types.Counts.{Counts}
 use Rattle.model.specs.declared.types.Move.{Move}
-use Rattle.model.specs.declared.types.Move.the-variants.{Refuse, Wait, Go, Note, Commit, End}
 use Rattle.model.specs.declared.types.Permit.the-variants.{Granted}
 use Rattle.model.specs.declared.types.Process.{Process}
 use Rattle.model.specs.declared.types.Refusal.the-variants.{Damaged}
 use Rattle.model.specs.declared.types.Stepping.{Stepping}
 use Rattle.model.specs.Layout.{Memory}
 use Rattle.model.specs.State.{processAt, memoryOf, withEvent}
-use Rattle.model.specs.Phases.{Moved, moved, turnOf}
-use Rattle.model.specs.Calls.{stepPermit, Store, Stepped, evented, storeAfter, stepBy, stepOf, processAfter, outcomeOf, tallyAfter}
-use Rattle.model.proofs.Laws.{turn-keeps}
+use Rattle.model.specs.Phases.{Moved, moved, turnOf, refuses}
+use Rattle.model.specs.Calls.{stepPermit, Store, Stepped, stepBy, stepOf, processAfter, outcomeOf, tallyAfter}
+use Rattle.model.proofs.Laws.{refused-is, turn-keeps}
 use Rattle.tables.specs.Room.{Lent, memory}
-use Rattle.phases.specs.Turn.{refuses}
 use Rattle.refusals.proofs.Laws.{MayStep}
 use Rattle.calls.specs.Advance.{Advance, advanceBy, advanceOf}
 
 -- ---- advance
-
-pub refused-is : (v : Move) → refuses v ≡ true → v ≡ Refuse
-refused-is Refuse e = refl
-refused-is Wait e = cc
-refused-is (Go c) e = cc
-refused-is (Note c) e = cc
-refused-is (Commit c a) e = cc
-refused-is (End a r t) e = cc
 
 -- a refusal leaves the process and the tally
 pub refused-advance : (tick : ℕ) (p : Process) (tally : List ℕ) (v : Move) (m : Memory) → refuses v ≡ true
@@ -56,14 +46,6 @@ pub lent-may-step : (w : Store) (i : ℕ) → MayStep w i → Lent (w .nodes) (w
 lent-may-step w i f =
     let l = f .start .lawful in
     record { node = l .node; version = l .version; fewNodes = l .few-nodes; fewVersions = l .few-versions }
-
-event-is : (w : Store) (i : ℕ) (v : Move) (m : Memory) → refuses v ≡ false → storeAfter w i v m ≡ evented w i v m
-event-is w i Refuse m e = cc
-event-is w i Wait m e = refl
-event-is w i (Go c) m e = refl
-event-is w i (Note c) m e = refl
-event-is w i (Commit c a) m e = refl
-event-is w i (End a r t) m e = refl
 
 abbrev pub stays : Store → Advance → Stepped
 stays w a = record {
@@ -94,7 +76,7 @@ stays-by w i v e k = simp (refused-is (v .move) e, k)
 moves-by : (w : Store) (i : ℕ) (v : Moved) → refuses (v .move) ≡ false
     → moves w i (advanceBy (w .state .events + 1) (processAt (w .state) i) (w .tally) v) ≡ stepBy Granted w i v
 unfolding advanceBy stepBy
-moves-by w i v e = simp (event-is w i (v .move) (v .memory) e)
+moves-by w i v e = simp e
 
 -- the process was found at its slot, the counts in the header
 module _

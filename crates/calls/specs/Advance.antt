@@ -5,10 +5,9 @@ use mathlib.Core.List.{List}
 use Rattle.model.specs.declared.types.Process.{Process}
 use Rattle.model.specs.declared.types.Stepping.{Stepping}
 use Rattle.model.specs.Layout.{Memory}
-use Rattle.model.specs.Phases.{Moved, turnOf}
+use Rattle.model.specs.Phases.{Moved, turnOf, refuses}
 use Rattle.model.specs.Calls.{processAfter, outcomeOf, tallyAfter}
 use Rattle.tables.specs.Room.{memory}
-use Rattle.phases.specs.Turn.{refuses}
 
 pub record Advance : Type 0 where
   pub refused : Bool

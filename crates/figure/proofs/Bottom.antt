@@ -13,11 +13,12 @@ use Rattle.model.specs.Layout.{Memory, nodeWords, topLevel, capacity, newest, n
 use Rattle.model.specs.Map.{Map}
 use Rattle.model.specs.Phases.{moved, usedNode, usedVersion, maxNodes, maxVersions, ahead, walked, descend, walkBy, checkBy, committed, addVersion, updateNode, updateAt, updateOf, addNode, makeOf, phaseOf, turnOf}
 use Rattle.model.specs.Calls.{processAfter}
+use Rattle.model.specs.Roles.{classOf}
 use Rattle.model.proofs.Tests.{if-yes, if-no, if-by, by-test, not-not}
 use Rattle.model.proofs.Words.{length-word, word-field}
 use Rattle.linearizability.proofs.Invariant.{Ghost, Nodes, Book}
 use Rattle.linearizability.proofs.Step.{place-in, within-T}
-use Rattle.figure.specs.Types.{Put, Phase, Walk, Seek, Check, Update, Make, Release, Answer, TooOld, VersionsFull, Added, KeysFull, New, Found, None, Call, Cursor, Process, Ahead, Equal, Past, Refuse, Note}
+use Rattle.figure.specs.Types.{Put, Phase, Walk, Seek, Check, Update, Make, Release, Answer, TooOld, VersionsFull, Added, KeysFull, New, None, OtherPut, Call, Cursor, Process, Ahead, Equal, Past, Refuse, Note}
 use Rattle.figure.specs.Figure.{keyOf, Pair, Inserted, createAndLink, update, Locked, release, acquire, alone, tryInsert}
 use Rattle.figure.proofs.Search.{key-same, Finds}
 use Rattle.figure.proofs.Runs.{at-place, Run, run-one, run-on}
@@ -32,13 +33,10 @@ made-of (some n) = n
 
 -- the answers of a put that makes no node
 abbrev pub Plain : Answer → Type 0
-Plain TooOld = Unit {0}
-Plain VersionsFull = Unit {0}
-Plain Added = Unit {0}
-Plain KeysFull = Unit {0}
-Plain New = ⊥
-Plain Found = ⊥
-Plain None = ⊥
+Plain a = classOf a ≡ OtherPut
+
+pub new-not-plain : ¬ (Plain New)
+new-not-plain e = let z : _≡_ {A = ℕ} 0 1 = cc in omega arith
 
 -- what the figure leaves before it frees the lock of q
 unfoldable pub done : Memory → Call → (i q : ℕ) → Inserted
@@ -163,12 +161,12 @@ module _ {m : Memory} {g : Ghost} {b : Map} (N : Nodes m g) (B : Book m b) {call
   update-settles : Settles m i q u
   unfolding update
   update-settles = if-by (Settles m i q) (ltb (call .timestamp) (timestamp (m₁ .versions) (newest (m₁ .nodes) y)))
-      (λ t. untouched TooOld tt)
+      (λ t. untouched TooOld refl)
       (λ t. if-by (Settles m i q) (leb (maxVersions m₁) (m .counts .versions))
-      (λ z. untouched VersionsFull tt)
+      (λ z. untouched VersionsFull refl)
       (λ z. record {
         node = refl;
-        answer = tt;
+        answer = refl;
         same = refl;
         size = length-word (m₁ .nodes) y 1 (m .counts .versions + 1) ∙ length-word (m .nodes) q 10 (i + 1);
         locks = λ l x l5. word-field (m₁ .nodes) y x 1 (10 + l) (m .counts .versions + 1) (omega arith) (omega arith)
@@ -183,7 +181,7 @@ module _ {m : Memory} {g : Ghost} {b : Map} (N : Nodes m g) (B : Book m b) {call
       let p = place-in m g b N B y (omega arith) used-y in
       let x = newest (m₁ .nodes) y in
       let e : x ≡ newest (m .nodes) y = word-field (m .nodes) q y 10 1 (i + 1) (omega arith) (omega arith) (omega arith) in
-      work-turn P i 0 None 0 tt m₁ Update 0 q preds₀ tt (omega arith) (R .used) tick
+      work-turn P i 0 None 0 tt m₁ Update 0 q preds₀ refl (omega arith) (R .used) tick
       ∙ if-no (not (usedNode m₁ y)) _ _ (not-not (usedNode m₁ y)
       (within-T {low = 1} {high = m .counts .nodes} {n = y} (omega arith) used-y))
       ∙ if-no (not (usedVersion m₁ x)) _ _ (not-not (usedVersion m₁ x)
@@ -211,7 +209,7 @@ module _ {m : Memory} {g : Ghost} {b : Map} (N : Nodes m g) (B : Book m b) {call
       → turnOf (i + 1) tick (here Make) m₁ ≡ moved (c .memory) (committed (here Make .cursor) (made-of (c .node)) (c .answer))
   unfolding phaseOf makeOf
   make-turn tick =
-      work-turn P i 0 None 0 tt m₁ Make 0 q preds₀ tt (omega arith) (R .used) tick
+      work-turn P i 0 None 0 tt m₁ Make 0 q preds₀ refl (omega arith) (R .used) tick
       ∙ by (leb (maxNodes m₁) (m .counts .nodes)) (leb (maxVersions m₁) (m .counts .versions)) (ltb topLevel (call .top)) low
       ∙ ap (λ (o : Inserted). moved (o .memory) (committed (here Make .cursor) (made-of (o .node)) (o .answer))) (sym create-is)
     where
@@ -231,9 +229,9 @@ module _ {m : Memory} {g : Ghost} {b : Map} (N : Nodes m g) (B : Book m b) {call
 
   make-sorts : Settles m i q c ⊎ Makes m call i q c
   make-sorts = rw create-is (if-by Sorts (leb (maxNodes m₁) (m .counts .nodes))
-      (λ t. inl (untouched KeysFull tt))
+      (λ t. inl (untouched KeysFull refl))
       (λ t. if-by Sorts (leb (maxVersions m₁) (m .counts .versions))
-      (λ z. inl (untouched VersionsFull tt))
+      (λ z. inl (untouched VersionsFull refl))
       (λ z. inr (record {
         node = refl;
         answer = refl;

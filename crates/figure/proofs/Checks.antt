@@ -58,11 +58,11 @@ bound = 5
 
 unfoldable pub by-store : Case → Seen
 unfolding Layout.capacity Layout.joined Layout.word Layout.withWord Layout.withNode Layout.freshNodes Layout.field Layout.withVersion placeOf
-    State.lawfulLength State.lawfulState State.lawfulStore State.isIdle
+    State.lawfulLength State.lawfulState State.lawfulStore
     Phases.ahead Phases.walked Phases.descend Phases.walkBy Phases.walkOf Phases.readOf Phases.seekBy Phases.seekOf
     Phases.lockOf Phases.checkBy Phases.checkOf Phases.addVersion Phases.updateNode Phases.updateAt Phases.updateOf
-    Phases.addNode Phases.makeOf Phases.addLink Phases.linkOf Phases.isNew Phases.rise Phases.released Phases.freed
-    Phases.releaseOf Phases.fromPut Phases.lawfulAt Phases.lawfulProcess Phases.phaseOf Phases.turnOf
+    Phases.addNode Phases.makeOf Phases.addLink Phases.linkOf Phases.rise Phases.released Phases.freed
+    Phases.releaseOf Phases.lawfulAt Phases.lawfulProcess Phases.phaseOf Phases.turnOf
     Calls.openDue Calls.openBy openOf trailingZeros topOf Calls.startPermit Calls.startBy Calls.callFor Calls.startOf
     Calls.stepPermit Calls.processAfter Calls.outcomeOf Calls.counted Calls.tallyAfter Calls.stepBy Calls.stepOf
     Figure.keyOf Figure.refNode Figure.find Figure.findAll Figure.get Figure.link Figure.create Figure.createAndLink Figure.update

@@ -12,9 +12,10 @@ use lib.Dec.{T, eqb, leb, ltb, leb→le, ltb→lt}
 use lib.ListN.{getD}
 use Rattle.model.specs.Choice.{if_then_else_}
 use Rattle.model.specs.Layout.{Memory, topLevel, next, lock, key}
-use Rattle.model.specs.Numbers.{placeOf, noVersion}
-use Rattle.model.specs.Phases.{moved, at, ended, usedNode, ahead, checkBy, addLink, linkOf, isNew, rise, released, freed, releaseOf, fromPut, noEffect, lawfulAt, phaseOf, turnOf}
+use Rattle.model.specs.Numbers.{noVersion}
+use Rattle.model.specs.Phases.{moved, at, ended, usedNode, ahead, checkBy, addLink, linkOf, rise, released, freed, releaseOf, noEffect, lawfulAt, phaseOf, turnOf}
 use Rattle.model.specs.Calls.{processAfter}
+use Rattle.model.specs.Roles.{isNew, fromPut}
 use Rattle.model.proofs.Tests.{if-yes, if-no, by-test, ne→neqb}
 use Rattle.model.proofs.Words.{word-node}
 use Rattle.linearizability.proofs.Invariant.{Ghost, Nodes}
@@ -47,7 +48,7 @@ module _ {call : Call} (P : Asked Put call) (i : ℕ) (preds : List ℕ) (made e
   pub release-turn : (m : Memory) (l q tick : ℕ) → l ≤ 5 → q ≤ m .counts .nodes
       → turnOf (i + 1) tick (releases l q) m
       ≡ freed (releases l q .cursor) m (rise call (releases l q .cursor) preds m (ended call New noVersion effect))
-  unfolding phaseOf releaseOf released isNew placeOf lawfulAt fromPut
+  unfolding phaseOf releaseOf released lawfulAt
   release-turn m l q tick l5 used = turn-is (i + 1) tick (releases l q) m l5 used (rw (P .kind-is) tt)
 
 module _ {m : Memory} {g : Ghost} (N : Nodes m g) {call : Call} (P : Asked Put call) (i start effect : ℕ) (x : Place)
@@ -104,7 +105,6 @@ module _ {m : Memory} {g : Ghost} (N : Nodes m g) {call : Call} (P : Asked Put c
     M₁ = acquire alone i M p L
 
     lawful : T (noEffect (record { answer = New; tick = effect }) || fromPut New)
-    unfolding fromPut
     lawful = or-right (noEffect (record { answer = New; tick = effect })) (fromPut New) tt
 
     -- release, and up
@@ -159,7 +159,7 @@ module _ {m : Memory} {g : Ghost} (N : Nodes m g) {call : Call} (P : Asked Put c
     -- link
     links : (tick : ℕ) → Run i tick 1 (at-place (S Link) M₁) (at-place (S Release) held′)
     unfolding phaseOf linkOf processAfter
-    links tick = run-one (work-turn P i made New effect lawful M₁ Link L p preds tt (omega arith) (Q-M .used) tick
+    links tick = run-one (work-turn P i made New effect lawful M₁ Link L p preds refl (omega arith) (Q-M .used) tick
         ∙ if-yes (usedNode M₁ made) _ _ (within-T {low = 1} {high = M .counts .nodes} {n = made} (omega arith)
         (omega (arith, R .nodes-is)))) tt
 

@@ -9,12 +9,13 @@ use Rattle.model.specs.Layout.{Memory, limits, nodeWords, versionWords, capacit
 use Rattle.model.specs.Map.{held, versionsOf, PutResult, putBy, putIn, Reply, getBy, getFrom, applied}
 use Rattle.model.specs.State.{within, lawfulLength, lawfulNodes, lawfulVersions, lawfulKey}
 use Rattle.model.specs.Calls.{topOf}
+use Rattle.model.specs.Roles.{classOf}
 use Rattle.linearizability.proofs.Opened.{opened-live}
 use Rattle.model.proofs.Tests.{if-by, if-no, and→}
 use Rattle.linearizability.proofs.Invariant.{Ghost, Nodes}
-use Rattle.figure.specs.Types.{Answer, TooOld, VersionsFull, Added, KeysFull, New, Found, None, Version}
+use Rattle.figure.specs.Types.{Answer, New, None, Class, Inserted, OtherPut, Hit, Miss, Version}
 use Rattle.figure.specs.Figure.{HMAX, MAX, head, keyOf, findAll, get, alone, put}
-use Rattle.figure.specs.Steps.{hopsDown, searchSteps, stepsAfter, stepsOf, smaller}
+use Rattle.figure.specs.Steps.{hopsDown, searchSteps, stepsIn, stepsAfter, stepsOf, smaller}
 use Rattle.figure.specs.OneByOne.{putting, getting, figureReply}
 use Rattle.figure.specs.Counted.{Few, FewSteps, Empty, EmptySteps}
 use Rattle.figure.proofs.Search.{at-head, down-few, left-smaller, left-most}
@@ -26,13 +27,13 @@ use Rattle.figure.proofs.Implements.{Ordered, opened-ordered, does}
 -- no answer is further from the end of the search than new
 after-few : (a : Answer) (h : ℕ) → stepsAfter a h ≤ 5 + 5 * h
 unfolding stepsAfter
-after-few TooOld h = omega arith
-after-few VersionsFull h = omega arith
-after-few Added h = omega arith
-after-few KeysFull h = omega arith
-after-few New h = omega arith
-after-few Found h = omega arith
-after-few None h = omega arith
+after-few a h = by (classOf a)
+  where
+    by : (k : Class) → stepsIn k h ≤ 5 + 5 * h
+    by Inserted = omega arith
+    by OtherPut = omega arith
+    by Hit = omega arith
+    by Miss = omega arith
 
 get-after : (bound : ℕ) (m : Memory) (k : ℕ) → stepsAfter (get bound m k .answer) 0 ≤ 1
 unfolding get stepsAfter

@@ -71,7 +71,7 @@ module _ {K W : ℕ} {m : Memory} {b : Map} (O : Ordered K W m b) (bound : ℕ) 
       let locks = put-locks (O .nodes) (O .book) P bound room i 0 free in
       let plays : putIn K W b k (ownVersion (put-call k v t draw 0)) ≡ answered (done .map) (o .answer) =
       rw (O .K-is, O .W-is) at (done .put refl) in
-      let made = put-applied K W b (done .map) (Requests.put k v t draw) 0 (o .answer) refl plays in
+      let made = put-applied K W b (done .map) (Requests.put k v t draw) 0 (o .answer) tt plays in
       record {
         replies = sym (ap (λ (z : Applied). z .reply) made);
         leaves = subst (λ (z : Map). Ordered K W (o .memory) z)

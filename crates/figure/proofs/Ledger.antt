@@ -4,14 +4,16 @@ use Prim.Native.Nat.{ℕ, zero, suc, _+_, _<_}
 use mathlib.Core.Logic.{_≢_, _⊎_, inl, inr}
 use mathlib.Core.Path.{_≡_, refl, sym, ap, _∙_, subst}
 use native.Mathlib.Omega.{arith}
+use lib.Dec.{T}
 use lib.ListN.{length}
 use Rattle.model.specs.Layout.{Memory}
 use Rattle.model.specs.Map.{Map, PutResult, putIn, answered, getFrom}
 use Rattle.model.specs.Phases.{Moved, ownVersion, maxNodes, maxVersions}
 use Rattle.model.specs.Calls.{begun, processAfter}
+use Rattle.model.specs.Roles.{isPut, isGet}
 use Rattle.model.proofs.Words.{filled}
-use Rattle.linearizability.proofs.Invariant.{Ghost, Nodes, Book, At, PlacedOf, Fits}
-use Rattle.linearizability.proofs.Step.{Does, Good, Result}
+use Rattle.linearizability.proofs.Invariant.{Ghost, Nodes, Book, At, PlacedOf, Fits, fits-at}
+use Rattle.linearizability.proofs.Step.{searches, Ending, Does, Good, Result}
 use Rattle.linearizability.proofs.Turn.{turn-good}
 use Rattle.figure.specs.Types.{Kind, Idle, Put, Get, Walk, Answer, Call, Effect, Process, Version, Move, Refuse, Wait, Go, Note, Commit, End}
 use Rattle.figure.proofs.Walking.{Asked}
@@ -157,11 +159,6 @@ module _ {m : Memory} {g : Ghost} {b : Map} (N : Nodes m g) (B : Book m b) {kind
       at : (j : ℕ) → j < 6 → At m g j 0 (call .key)
       at j h = record { used = omega arith; up = omega (arith, N .head-high); low = omega (arith, N .head-key, P .key-low) }
 
-  begun-fits : (kind : Kind) → call .kind ≡ kind → kind ≢ Idle → Fits m g i (begun call)
-  begun-fits Idle e ne = absurd (ne refl)
-  begun-fits Get e ne = record { kind = Get; phase = Walk; kind-is = e; phase-is = refl; ok = (begun-placed, (refl, refl)) }
-  begun-fits Put e ne = record { kind = Put; phase = Walk; kind-is = e; phase-is = refl; ok = (begun-placed, (refl, refl)) }
-
   module _ {start n : ℕ} {left : Memory} {a : Answer} {v : Version} {e : ℕ}
       (E : Ended i start n (at-place (begun call) m) left a v e) where
     abbrev last : Place
@@ -169,7 +166,7 @@ module _ {m : Memory} {g : Ghost} {b : Map} (N : Nodes m g) (B : Book m b) {kind
 
     kept : Kept i (at-place (begun call) m) last b
     kept = kept-goes i (start + 1) (E .before) (at-place (begun call) m) last b (λ z. omega arith) has-call
-        (record { ghost = g; nodes = N; book = B; fits = begun-fits (call .kind) refl has-call }) (E .run .goes)
+        (record { ghost = g; nodes = N; book = B; fits = fits-at Walk refl (searches (call .kind) has-call) (begun-placed, (refl, refl)) }) (E .run .goes)
 
     same : last .process .call ≡ call
     same = run-call (E .run)
@@ -205,9 +202,6 @@ module _ {m : Memory} {g : Ghost} {b : Map} (N : Nodes m g) (B : Book m b) {kind
         by (inl x) = absurd (z (x .1))
         by (inr x) = x .1 ∙ ap (answered (kept .map)) (sym q)
 
-    get≢put : Get ≡ Put → ⊥
-    get≢put z = let o : _≡_ {A = ℕ} 0 1 = cc in omega arith
-
     pub played : Played m left call b a v
     played = record {
       map = good .b′;
@@ -223,15 +217,12 @@ module _ {m : Memory} {g : Ghost} {b : Map} (N : Nodes m g) (B : Book m b) {kind
         kind-is = ap (λ (c : Call). c .kind) same
 
         Ends : Type 0
-        Ends = ((last .process .call .kind ≡ Get) × (last .process .effect .tick ≡ 0) × (e ≡ start + n)
-            × (getFrom (kept .map) (last .process .call .key) ≡ record { answer = a; version = v }))
-            ⊎ ((last .process .call .kind ≡ Put) × (last .process .effect .tick ≢ 0) × (e ≡ last .process .effect .tick)
-            × (a ≡ last .process .effect .answer) × (v ≡ ownVersion (last .process .call)))
+        Ends = Ending (last .process) (start + n) (kept .map) a v e
 
         as-get : call .kind ≡ Get → Ends → (good .b′ ≡ b) × (getFrom b (call .key) ≡ record { answer = a; version = v })
         as-get is (inl d) = let q = gets (d .1) (d .3) in (good .does .0 ∙ q .0, q .1)
-        as-get is (inr d) = absurd (get≢put (sym is ∙ sym kind-is ∙ d .0))
+        as-get is (inr d) = absurd (subst (λ k. T (isPut k)) (kind-is ∙ is) (d .0))
 
         as-put : call .kind ≡ Put → Ends → puts m call b ≡ answered (good .b′) a
-        as-put is (inl d) = absurd (get≢put (sym (d .0) ∙ kind-is ∙ is))
+        as-put is (inl d) = absurd (subst (λ k. T (isGet k)) (kind-is ∙ is) (d .0))
         as-put is (inr d) = plays-put (d .1) (d .3) ∙ ap (λ (y : Map). answered y a) (sym (good .does .0))

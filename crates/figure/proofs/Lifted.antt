@@ -12,14 +12,15 @@ use lib.Dec.{T, eqb, leb, leb→le}
 use lib.ListN.{length, set}
 use lib.Seq.{getD-set-same, set-getD, set-set}
 use Rattle.model.specs.Layout.{Memory, limits}
-use Rattle.model.specs.State.{noProcess, isIdle}
+use Rattle.model.specs.State.{noProcess}
 use Rattle.model.specs.Phases.{Moved, moved, lawfulAt, lawfulProcess, turnOf}
 use Rattle.model.specs.Calls.{Store, Stepped, stepPermit, processAfter, outcomeOf, tallyAfter, stepBy, stepOf}
+use Rattle.model.specs.Roles.{isIdle, roleOf}
 use Rattle.model.proofs.Seen.{Seen, sawStep}
 use Rattle.model.proofs.Tests.{is-true, if-no, eq→eqb}
 use Rattle.linearizability.proofs.Live.{memory, slot, Live, core-lawful}
 use Rattle.linearizability.proofs.Stepped.{step-live}
-use Rattle.figure.specs.Types.{Kind, Idle, Put, Get, Answer, Process, Version, Move, Refuse, Wait, Go, Note, Commit, End, Granted, Stepping}
+use Rattle.figure.specs.Types.{Kind, Idle, Put, Get, Role, Searching, Reading, Writing, Releasing, Answer, Process, Version, Move, Refuse, Wait, Go, Note, Commit, End, Granted, Stepping}
 use Rattle.figure.specs.Alone.{Turned, turned, moves, rested}
 use Rattle.figure.proofs.Runs.{Going, Place, at-place, stepped, place-after, Goes}
 
@@ -34,12 +35,17 @@ idle-refuses holder tick pr m e = if-no (lawfulProcess pr m) _ _ (unlawful e)
     and-no true b t = t
     and-no false b t = tt
 
+    idle-not : (role : Role) → T (not (lawfulAt (pr .call .kind) role (pr .effect)))
+    idle-not Searching = rw e tt
+    idle-not Reading = rw e tt
+    idle-not Writing = rw e tt
+    idle-not Releasing = rw e tt
+
     unlawful : pr .call .kind ≡ Idle → T (not (lawfulProcess pr m))
     unlawful e = and-no (leb (pr .cursor .level) 5 && leb (pr .cursor .pred) (m .counts .nodes))
-        (lawfulAt (pr .call .kind) (pr .cursor .phase) (pr .effect)) (rw e tt)
+        (lawfulAt (pr .call .kind) (roleOf (pr .cursor .phase)) (pr .effect)) (idle-not (roleOf (pr .cursor .phase)))
 
 no-idle : (kind : Kind) → kind ≢ Idle → isIdle kind ≡ false
-unfolding isIdle
 no-idle Idle ne = absurd (ne refl)
 no-idle Put ne = refl
 no-idle Get ne = refl

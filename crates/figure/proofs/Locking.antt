@@ -7,12 +7,13 @@ use mathlib.Core.Path.{_≡_, refl, sym, ap, _∙_, subst}
 use native.Mathlib.Omega.{arith}
 use lib.Dec.{T, eqb, leb}
 use Rattle.model.specs.Layout.{Memory, key, next, lock, withWord}
-use Rattle.model.specs.Phases.{moved, at, ahead, seekBy, seekOf, lockOf, checkBy, checkOf, noEffect, fromPut, lawfulAt, phaseOf, turnOf}
+use Rattle.model.specs.Phases.{moved, at, ahead, seekBy, seekOf, lockOf, checkBy, checkOf, noEffect, lawfulAt, phaseOf, turnOf}
 use Rattle.model.specs.Calls.{processAfter}
+use Rattle.model.specs.Roles.{roleOf, fromPut}
 use Rattle.model.proofs.Tests.{if-yes, if-no, by-eq, eq→eqb, ne→neqb}
 use Rattle.model.proofs.Words.{same-key, word-field}
 use Rattle.linearizability.proofs.Invariant.{Ghost, Nodes}
-use Rattle.figure.specs.Types.{Put, Phase, Walk, Read, Seek, Lock, Check, Update, Make, Link, Release, Answer, Call, Process, Ahead, Wait, Go}
+use Rattle.figure.specs.Types.{Put, Phase, Seek, Lock, Check, Writing, Answer, Call, Process, Ahead, Wait, Go}
 use Rattle.figure.specs.Figure.{MAX, tail, keyOf, Pair, acquire, alone, findLock}
 use Rattle.figure.proofs.Search.{Finds, find-stop, link-used, level5}
 use Rattle.figure.proofs.Runs.{at-place, Run, run-one, run-on}
@@ -43,34 +44,18 @@ finds-ready N k-max f = record {
 
 -- the phases of a put that stands under no lock or works under one; its effect is before it, or its answer one of a put's
 abbrev Works : Phase → Type 0
-Works Walk = ⊥
-Works Read = ⊥
-Works Seek = Unit {0}
-Works Lock = Unit {0}
-Works Check = Unit {0}
-Works Update = Unit {0}
-Works Make = Unit {0}
-Works Link = Unit {0}
-Works Release = ⊥
+Works ph = roleOf ph ≡ Writing
 
 module _ {call : Call} (P : Asked Put call) (i made : ℕ) (a : Answer) (e : ℕ)
     (lawful : T (noEffect (record { answer = a; tick = e }) || fromPut a)) where
-  lawful-at : (ph : Phase) → Works ph → T (lawfulAt Put ph (record { answer = a; tick = e }))
+  lawful-at : (ph : Phase) → Works ph → T (lawfulAt Put (roleOf ph) (record { answer = a; tick = e }))
   unfolding lawfulAt
-  lawful-at Walk w = absurd w
-  lawful-at Read w = absurd w
-  lawful-at Seek w = lawful
-  lawful-at Lock w = lawful
-  lawful-at Check w = lawful
-  lawful-at Update w = lawful
-  lawful-at Make w = lawful
-  lawful-at Link w = lawful
-  lawful-at Release w = absurd w
+  lawful-at ph w = rw w lawful
 
   pub work-turn : (m : Memory) (ph : Phase) (l q : ℕ) (preds : List ℕ) → Works ph → l ≤ 5 → q ≤ m .counts .nodes → (tick : ℕ)
       → turnOf (i + 1) tick (pose call ph l q preds made a e) m ≡ phaseOf ph (i + 1) tick (pose call ph l q preds made a e) m
   work-turn m ph l q preds w l5 used tick = turn-is (i + 1) tick (pose call ph l q preds made a e) m l5 used
-      (subst (λ kind. T (lawfulAt kind ph (record { answer = a; tick = e }))) (sym (P .kind-is)) (lawful-at ph w))
+      (subst (λ kind. T (lawfulAt kind (roleOf ph) (record { answer = a; tick = e }))) (sym (P .kind-is)) (lawful-at ph w))
 
   module _ {m : Memory} {l q : ℕ} (R : Ready m (call .key) l q) (preds : List ℕ) where
     abbrev k : ℕ
@@ -102,13 +87,13 @@ module _ {call : Call} (P : Asked Put call) (i made : ℕ) (a : Answer) (e : ℕ
 
     pub seek-on : (tick : ℕ) → Run i tick 1 (at-place (stands Seek) m) (at-place (stands Lock) m)
     unfolding phaseOf seekOf seekBy processAfter
-    seek-on tick = run-one (work-turn m Seek l q preds tt (R .level) (R .used) tick
+    seek-on tick = run-one (work-turn m Seek l q preds refl (R .level) (R .used) tick
         ∙ ahead-stop m k (P .key-high) l q (R .linked)
         (λ x. moved m (seekBy (stands Seek .cursor) x) ≡ moved m (Go (stands Lock .cursor))) (R .stop) refl refl) tt
 
     lock-turn : (tick : ℕ) → turnOf (i + 1) tick (stands Lock) m ≡ lockOf (stands Lock .cursor) (i + 1) m
     unfolding phaseOf
-    lock-turn = work-turn m Lock l q preds tt (R .level) (R .used)
+    lock-turn = work-turn m Lock l q preds refl (R .level) (R .used)
 
     lock-on : (tick : ℕ) → lock (m .nodes) l q ≡ 0 → Run i tick 1 (at-place (stands Lock) m) (at-place (stands Check) held)
     unfolding lockOf processAfter
@@ -127,7 +112,7 @@ module _ {call : Call} (P : Asked Put call) (i made : ℕ) (a : Answer) (e : ℕ
     pub check-turn : (tick : ℕ) (x : Ahead) → ahead held l q k ≡ x
         → turnOf (i + 1) tick (stands Check) held ≡ checkBy (stands Check .cursor) held x
     unfolding phaseOf checkOf
-    check-turn tick x z = work-turn held Check l q preds tt (R .level) (R .used) tick
+    check-turn tick x z = work-turn held Check l q preds refl (R .level) (R .used) tick
         ∙ ap (λ o. checkBy (stands Check .cursor) held o) z
 
     pub find-lock : (bound : ℕ) → 1 ≤ bound

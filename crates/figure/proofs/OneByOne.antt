@@ -8,7 +8,7 @@ use lib.ListN.{length}
 use lib.Seq.{getD-set-same, getD-set-other}
 use Rattle.model.specs.Layout.{Memory, nodeWords, versionWords, capacity}
 use Rattle.model.specs.Map.{Reply}
-use Rattle.model.specs.State.{idleProcess, noProcess, lawfulKey, isIdle}
+use Rattle.model.specs.State.{idleProcess, noProcess, lawfulKey}
 use Rattle.model.specs.Phases.{maxNodes}
 use Rattle.model.specs.Calls.{openOf, startPermit, startBy, startOf, topOf, Store, standing}
 use Rattle.model.specs.Requests as Requests
@@ -17,6 +17,7 @@ use Rattle.model.proofs.Seen.{emptySeen}
 use Rattle.model.specs.ByValue.{opensBy, freshStore, byValue}
 use Rattle.model.specs.Requests.{Operation, keyOf}
 use Rattle.model.specs.Linearizability.{All}
+use Rattle.model.specs.Roles.{isIdle}
 use Rattle.model.proofs.Tests.{by-eq}
 use Rattle.model.proofs.Laws.{top-at-most}
 use Rattle.linearizability.proofs.Opened.{opened-live}
@@ -62,7 +63,7 @@ module _ (w : Store) (lives : Lives w) (i k : ℕ) (below : i < w .state .proces
     (idle : slot w i .call .kind ≡ Idle)
     (time : w .state .events < w .state .limit) where
   may-start : startPermit (w .state) (w .nodes) (w .versions) i k ≡ Granted
-  unfolding startPermit isIdle
+  unfolding startPermit
   may-start = rw (
     core-lawful (lives .live .core),
     not-le (w .state .processes) i below,

@@ -11,20 +11,20 @@ use lib.ListN.{getD, set, replicate}
 use lib.Seq.{getD-set-other}
 use Rattle.model.specs.Layout.{Memory, topLevel, lock}
 use Rattle.model.specs.Map.{Map}
-use Rattle.model.specs.Numbers.{placeOf}
-use Rattle.model.specs.Phases.{moved, ownVersion, isNew, rise, released, freed, releaseOf, fromPut, lawfulAt, phaseOf, turnOf}
+use Rattle.model.specs.Phases.{moved, ownVersion, rise, released, freed, releaseOf, lawfulAt, phaseOf, turnOf}
 use Rattle.model.specs.Calls.{begun}
+use Rattle.model.specs.Roles.{isNew, fromPut}
 use Rattle.model.proofs.Tests.{if-yes, if-no, by-eq}
 use Rattle.model.proofs.Words.{word-same, word-other}
 use Rattle.linearizability.proofs.Invariant.{Ghost, Nodes, Book}
-use Rattle.figure.specs.Types.{Put, Lock, Release, Answer, TooOld, VersionsFull, Added, KeysFull, New, Found, None, Call, End}
+use Rattle.figure.specs.Types.{Put, Lock, Release, Answer, New, None, Call, End}
 use Rattle.figure.specs.Figure.{HMAX, head, Pair, findAll, Inserted, release, alone, insertAbove, insertAll, putH}
 use Rattle.figure.specs.Alone.{Free, leftBelow}
 use Rattle.figure.specs.Steps.{hopsDown, searchSteps, stepsAfter, stepsOf}
 use Rattle.figure.proofs.Search.{Finds, at-head, all-finds, all-next}
 use Rattle.figure.proofs.Runs.{at-place, Run, run-on, run-same, Ended, Waiting}
 use Rattle.figure.proofs.Walking.{Asked, put≢idle, pose, turn-is, Walked, walk-down}
-use Rattle.figure.proofs.Bottom.{made-of, Plain, done, closed, try-is, Settles, Makes, walk-on, bottom}
+use Rattle.figure.proofs.Bottom.{made-of, Plain, new-not-plain, done, closed, try-is, Settles, Makes, walk-on, bottom}
 use Rattle.figure.proofs.Locking.{finds-ready, seek-on, lock-waits}
 use Rattle.figure.proofs.Rising.{Risen, made-risen}
 use Rattle.figure.proofs.Climbing.{above, releases, release-turn, Climbed, climb, rises, seeks, waits}
@@ -103,28 +103,13 @@ module _ {m : Memory} {g : Ghost} {b : Map} (N : Nodes m g) (B : Book m b) {call
   plain-turn : (m₂ : Memory) (made tick e : ℕ) (a : Answer) → Plain a → path 0 ≤ m₂ .counts .nodes
       → turnOf (i + 1) tick (pose call Release 0 (path 0) preds made a e) m₂
       ≡ moved (release m₂ (path 0) 0) (End a (ownVersion call) e)
-  unfolding phaseOf releaseOf released isNew placeOf freed lawfulAt fromPut
-  plain-turn m₂ made tick e TooOld p used = turn-is (i + 1) tick (pose call Release 0 (path 0) preds made TooOld e) m₂
-      (omega arith) used (rw (P .kind-is) tt)
-  plain-turn m₂ made tick e VersionsFull p used = turn-is (i + 1) tick (pose call Release 0 (path 0) preds made VersionsFull e) m₂
-      (omega arith) used (rw (P .kind-is) tt)
-  plain-turn m₂ made tick e Added p used = turn-is (i + 1) tick (pose call Release 0 (path 0) preds made Added e) m₂
-      (omega arith) used (rw (P .kind-is) tt)
-  plain-turn m₂ made tick e KeysFull p used = turn-is (i + 1) tick (pose call Release 0 (path 0) preds made KeysFull e) m₂
-      (omega arith) used (rw (P .kind-is) tt)
-  plain-turn m₂ made tick e New p used = absurd p
-  plain-turn m₂ made tick e Found p used = absurd p
-  plain-turn m₂ made tick e None p used = absurd p
+  unfolding phaseOf releaseOf released freed lawfulAt
+  plain-turn m₂ made tick e a p used =
+      turn-is (i + 1) tick (pose call Release 0 (path 0) preds made a e) m₂ (omega arith) used (rw (P .kind-is, p) tt) ∙ rw p refl
 
   plain-steps : (a : Answer) → Plain a → suc (walked + 5) ≡ stepsOf bound m k a h
   unfolding stepsOf searchSteps stepsAfter
-  plain-steps TooOld p = omega arith
-  plain-steps VersionsFull p = omega arith
-  plain-steps Added p = omega arith
-  plain-steps KeysFull p = omega arith
-  plain-steps New p = absurd p
-  plain-steps Found p = absurd p
-  plain-steps None p = absurd p
+  plain-steps a p = rw p (omega arith)
 
   -- then no level above is come to
   settled-out : Settles m i (path 0) o → (l : ℕ) → l ≤ HMAX → out l ≡ closed (path 0) o
@@ -259,7 +244,7 @@ module _ {m : Memory} {g : Ghost} {b : Map} (N : Nodes m g) (B : Book m b) {call
     where
       by : Settles m i (path 0) o ⊎ Makes m call i (path 0) o
           → Waiting i start (searchSteps bound m k + 1 + 5 * suc l) (at-place (begun call) m) (out l .memory)
-      by (inl s) = absurd (subst Plain (sym (answers h (P .top-high)) ∙ new (λ e. omega arith)) (s .answer))
+      by (inl s) = absurd (new-not-plain (subst Plain (sym (answers h (P .top-high)) ∙ new (λ e. omega arith)) (s .answer)))
       by (inr M) = waits-up l le taken (all-up M l (omega arith) (λ j jl. free j (omega arith)))
 
   -- ---- the whole put, where the locks that it needs are free

@@ -12,9 +12,11 @@ use lib.Seq.{getD-set-same, getD-set-other}
 use Rattle.model.specs.Layout.{Memory, topLevel, key, next}
 use Rattle.model.specs.Phases.{moved, at, ahead, descend, walkBy, walkOf, lawfulAt, lawfulProcess, phaseOf, turnOf}
 use Rattle.model.specs.Calls.{topOf, processAfter}
+use Rattle.model.specs.Roles.{roleOf, plays}
 use Rattle.model.proofs.Tests.{if-yes, if-no, by-eq, by-test, →and, eq→eqb, ne→neqb}
 use Rattle.model.proofs.Laws.{top-at-most}
 use Rattle.linearizability.proofs.Invariant.{Ghost, Nodes, At}
+use Rattle.linearizability.proofs.Step.{searches}
 use Rattle.figure.specs.Types.{Kind, Idle, Put, Get, Phase, Walk, Answer, None, Call, Process, Ahead, Less, Equal, Past, Note}
 use Rattle.figure.specs.Figure.{HMAX, MAX, keyOf, Pair, find, findAll}
 use Rattle.figure.specs.Steps.{hops, hopsDown}
@@ -106,22 +108,20 @@ before call phase l p preds = pose call phase l p preds 0 None 0
 
 -- the tests of every step pass, and its phase decides
 pub turn-is : (holder tick : ℕ) (pr : Process) (m : Memory) → pr .cursor .level ≤ topLevel → pr .cursor .pred ≤ m .counts .nodes
-    → T (lawfulAt (pr .call .kind) (pr .cursor .phase) (pr .effect))
+    → T (lawfulAt (pr .call .kind) (roleOf (pr .cursor .phase)) (pr .effect))
     → turnOf holder tick pr m ≡ phaseOf (pr .cursor .phase) holder tick pr m
 unfolding turnOf lawfulProcess
 turn-is holder tick pr m l5 used t =
     let low = leb (pr .cursor .level) topLevel in
     let known = leb (pr .cursor .pred) (m .counts .nodes) in
-    let lawful = lawfulAt (pr .call .kind) (pr .cursor .phase) (pr .effect) in
+    let lawful = lawfulAt (pr .call .kind) (roleOf (pr .cursor .phase)) (pr .effect) in
     if-yes (low && known && lawful) _ _
     (→and (low && known) lawful
     (→and low known (le→leb (pr .cursor .level) topLevel l5) (le→leb (pr .cursor .pred) (m .counts .nodes) used)) t)
 
-lawful-walk : (kind : Kind) → kind ≢ Idle → T (lawfulAt kind Walk (record { answer = None; tick = 0 }))
+lawful-walk : (kind : Kind) → kind ≢ Idle → T (lawfulAt kind (roleOf Walk) (record { answer = None; tick = 0 }))
 unfolding lawfulAt
-lawful-walk Idle busy = absurd (busy refl)
-lawful-walk Put busy = tt
-lawful-walk Get busy = tt
+lawful-walk kind busy = →and (plays kind (roleOf Walk)) _ (searches kind busy) tt
 
 -- ---- the walk
 

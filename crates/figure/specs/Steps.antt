@@ -4,7 +4,8 @@ use lib.Dec.{leb, ltb}
 use Rattle.model.specs.Choice.{if_then_else_}
 use Rattle.model.specs.Layout.{Memory, key, next}
 use Rattle.model.proofs.Counting.{count}
-use Rattle.figure.specs.Types.{Answer, TooOld, VersionsFull, Added, KeysFull, New, Found, None}
+use Rattle.model.specs.Roles.{classOf}
+use Rattle.figure.specs.Types.{Answer, Class, Inserted, OtherPut, Hit, Miss}
 use Rattle.figure.specs.Figure.{HMAX, head, keyOf, find}
 
 -- the hops of `find`: how often it calls itself
@@ -27,14 +28,14 @@ unfoldable pub searchSteps : (bound : ℕ) → Memory → (k : ℕ) → ℕ
 searchSteps bound m k = hopsDown bound m head k HMAX + (HMAX + 1)
 
 -- the steps after the search
+abbrev pub stepsIn : Class → (h : ℕ) → ℕ
+stepsIn Miss h = 0
+stepsIn Hit h = 1  -- read
+stepsIn OtherPut h = 5  -- seek, lock, check, update or make, release
+stepsIn Inserted h = 5 + 5 * h  -- and at each level above the bottom seek, lock, check, link, release
+
 unfoldable pub stepsAfter : Answer → (h : ℕ) → ℕ
-stepsAfter None h = 0
-stepsAfter Found h = 1  -- read
-stepsAfter TooOld h = 5  -- seek, lock, check, update, release
-stepsAfter VersionsFull h = 5  -- the same, or make for update
-stepsAfter Added h = 5
-stepsAfter KeysFull h = 5
-stepsAfter New h = 5 + 5 * h  -- and at each level above the bottom seek, lock, check, link, release
+stepsAfter a h = stepsIn (classOf a) h
 
 unfoldable pub stepsOf : (bound : ℕ) → Memory → (k : ℕ) → Answer → (h : ℕ) → ℕ
 stepsOf bound m k a h = searchSteps bound m k + stepsAfter a h

@@ -14,8 +14,9 @@ use Rattle.model.specs.declared.types.Process.{Process}
 use Rattle.model.specs.declared.types.State.{State}
 use Rattle.model.specs.Layout.{Memory, levels, limits}
 use Rattle.model.specs.State.{processAt, memoryOf}
-use Rattle.model.specs.Phases.{Moved, turnOf}
-use Rattle.model.specs.Calls.{processAfter, Store, evented, storeAfter, Stepped, stepPermit, stepBy, stepOf, storeOf}
+use Rattle.model.specs.Phases.{Moved, refuses, turnOf}
+use Rattle.model.specs.Calls.{processAfter, Store, storeAfter, Stepped, stepPermit, stepBy, stepOf, storeOf}
+use Rattle.model.proofs.Tests.{if-by}
 use Rattle.refusals.proofs.Laws.{may-step}
 use Rattle.process.specs.ProcessWords.{sizes}
 use Rattle.layout.specs.StateWords.{stateWords, stateFrom, isState, startOf, part, written}
@@ -60,21 +61,10 @@ module _ (w nodes versions tally : List ℕ) (i : ℕ) (known : isState w ≡ tr
       ap (λ p. length (p .preds)) (process-at w i h) ∙ length-take-le 6 (drop 13 (part w i)) (rw length-drop (omega (arith, long)))
 
   moved : i < limits .processes → (v : Move) (m : Memory) → written w i (storeAfter store i v m .state) ≡ stateWords (storeAfter store i v m .state)
-  moved h v m = cases v
-    where
-      event : (v : Move) → written w i (evented store i v m .state) ≡ stateWords (evented store i v m .state)
-      event v =
-          let p = processAfter (stateFrom w .events + 1) (processAt (stateFrom w) i) v in
-          written-state w i p (m .counts) known h
-          (process-long p (after-remembers (stateFrom w .events + 1) (processAt (stateFrom w) i) v (remembers h)))
-
-      cases : (v : Move) → written w i (storeAfter store i v m .state) ≡ stateWords (storeAfter store i v m .state)
-      cases Refuse = same
-      cases Wait = event Wait
-      cases (Go c) = event (Go c)
-      cases (Note c) = event (Note c)
-      cases (Commit c a) = event (Commit c a)
-      cases (End a r e) = event (End a r e)
+  moved h v m = if-by (λ (x : Store). written w i (x .state) ≡ stateWords (x .state)) (refuses v) (λ t. same) λ t.
+      let p = processAfter (stateFrom w .events + 1) (processAt (stateFrom w) i) v in
+      written-state w i p (m .counts) known h
+      (process-long p (after-remembers (stateFrom w .events + 1) (processAt (stateFrom w) i) v (remembers h)))
 
   permitted : (p : Permit) (v : Moved) → stepPermit store i ≡ p → written w i (stepBy p store i v .store .state) ≡ stateWords (stepBy p store i v .store .state)
   unfolding stepBy

@@ -17,11 +17,10 @@ use Rattle.model.specs.declared.types.Refusal.the-variants.{Corrupt}
 use Rattle.model.specs.declared.types.Starting.{Starting}
 use Rattle.model.specs.declared.types.Stepping.{Stepping}
 use Rattle.model.specs.Layout.{Memory, limits}
-use Rattle.model.specs.Phases.{moved, turnOf}
+use Rattle.model.specs.Phases.{moved, turnOf, refuses}
 use Rattle.model.specs.State.{processAt, withEvent, lawfulStore}
 use Rattle.model.specs.Calls.{processAfter, begun, startBy, Store, storeOf, stepPermit, stepBy, stepOf}
 use Rattle.tables.specs.Room.{memory}
-use Rattle.phases.specs.Turn.{refuses}
 use Rattle.layout.specs.Head.{headerWords, headerOf}
 use Rattle.calls.specs.Advance.{Advance, advanceBy, advanceOf}
 use Rattle.calls.proofs.Laws.{stays, moves, step-stays, step-moves}

@@ -12,20 +12,19 @@ use Rattle.model.specs.declared.types.Call.{Call}
 use Rattle.model.specs.declared.types.Counts.{Counts}
 use Rattle.model.specs.declared.types.Lengths.{Lengths}
 use Rattle.model.specs.declared.types.Move.{Move}
-use Rattle.model.specs.declared.types.Move.the-variants.{Refuse, Wait, Go, Note, Commit, End}
 use Rattle.model.specs.declared.types.Permit.{Permit}
 use Rattle.model.specs.declared.types.Permit.the-variants.{Granted, Denied}
 use Rattle.model.specs.declared.types.Process.{Process}
 use Rattle.model.specs.declared.types.State.{State}
 use Rattle.model.specs.Layout.{Memory, levels, limits}
 use Rattle.model.specs.State.{noProcess, idleProcess, processAt, freshState, withEvent}
-use Rattle.model.specs.Phases.{Moved}
-use Rattle.model.specs.Calls.{openPermit, openBy, openOf, startBy, startOf, Store, evented, storeAfter, stepPermit, stepBy, stepOf, lookOf, statusOf}
+use Rattle.model.specs.Phases.{Moved, refuses}
+use Rattle.model.specs.Calls.{openPermit, openBy, openOf, startBy, startOf, Store, storeAfter, stepPermit, stepBy, stepOf, lookOf, statusOf}
 use Rattle.model.specs.Requests.{Operation}
 use Rattle.model.specs.System.{viewOf}
 use Rattle.model.specs.ByValue.{Given, freshStore, opensBy, byValue}
 use Rattle.model.specs.Linearizability.{Linearizable}
-use Rattle.model.proofs.Tests.{by-eq}
+use Rattle.model.proofs.Tests.{if-by, by-eq}
 use Rattle.linearizability.proofs.Linearized as by-value
 use Rattle.linearizability.proofs.Simulated.{Same, SameOpening, Simulates, simulated}
 use Rattle.process.specs.ProcessWords.{sizes}
@@ -72,19 +71,9 @@ whole-start (Denied r) s i call o = o
 whole-start Granted s i call o = whole-event s i (s .counts) _ (λ lt. refl) o
 
 whole-move : (x : Store) (i : ℕ) (v : Move) (m : Memory) → Whole (x .state) → Whole (storeAfter x i v m .state)
-whole-move x i v m o = cases v
-  where
-    event : (v : Move) → Whole (evented x i v m .state)
-    event v = whole-event (x .state) i (m .counts) _
-        (λ lt. after-remembers (x .state .events + 1) (processAt (x .state) i) v (o .six i lt)) o
-
-    cases : (v : Move) → Whole (storeAfter x i v m .state)
-    cases Refuse = o
-    cases Wait = event Wait
-    cases (Go c) = event (Go c)
-    cases (Note c) = event (Note c)
-    cases (Commit c a) = event (Commit c a)
-    cases (End a r e) = event (End a r e)
+whole-move x i v m o = if-by (λ (y : Store). Whole (y .state)) (refuses v) (λ t. o) λ t.
+    whole-event (x .state) i (m .counts) _
+    (λ lt. after-remembers (x .state .events + 1) (processAt (x .state) i) v (o .six i lt)) o
 
 whole-step : (d : Permit) (x : Store) (i : ℕ) (v : Moved) → Whole (x .state) → Whole (stepBy d x i v .store .state)
 unfolding stepBy

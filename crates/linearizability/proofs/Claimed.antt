@@ -12,12 +12,12 @@ use Rattle.model.specs.Choice.{if_then_else_}
 use Rattle.model.specs.Numbers.{answerOf}
 use Rattle.model.specs.Requests.{Operation, put, get, kindOf}
 use Rattle.model.specs.Map.{Map, applied}
-use Rattle.model.specs.State.{isIdle}
 use Rattle.model.specs.Calls.{Store, standing, statusOf}
 use Rattle.model.specs.System.{viewOf}
 use Rattle.model.specs.History.{Action, step, look, Invoked, Pending, no-call, has-call, Completed, Query, History, eventsIn, logOf, pendingIn, completedIn, queriesIn}
 use Rattle.model.specs.ByValue.{byValue}
 use Rattle.model.specs.Linearizability.{Effected, shownEffect, runningEffects, effectsOf, fedAt, mapAfter, mapBefore, All, Any, Distinct, StepAt, replyTold, Settled, StandsFor, AnswersFrom, countedAt, runningAs, runningBelow, countsOf, Demanded, Beyond, Claim}
+use Rattle.model.specs.Roles.{isIdle}
 use Rattle.model.proofs.Tests.{if-eq, if-no, by-eq, by-le, ne→neqb}
 use Rattle.linearizability.proofs.Effects.{Took, nothing, took, fed, played, played-snoc, all-map, nothing≢took, Entered, Settles}
 use Rattle.linearizability.proofs.Live.{slot, keptOf, kept-kind, has-injective, EndedAt, Pairs, busyBelow, Hist, LiveFrom, status-is, status-beyond}
@@ -115,7 +115,7 @@ stands-for log i (has-call d) pr e t =
     by (get k) q = unfold standing in (ap kindOf (sym q), begun, t d refl)
 
 shown-runs : (k : Kind) (pr : Process) → runningAs (standing k pr) ≡ (if isIdle k then 0 else 1)
-unfolding standing isIdle
+unfolding standing
 shown-runs Idle pr = refl
 shown-runs Put pr = refl
 shown-runs Get pr = refl

@@ -4,8 +4,9 @@ use Prim.Native.Nat.{ℕ, zero, suc, _≤_}
 use mathlib.Core.List.{List}
 use mathlib.Core.Path.{_≡_, refl, _∙_}
 use native.Mathlib.Omega.{arith}
-use Rattle.linearizability.specs.Types.{Kind, Idle, Put, Get, Phase, Walk, Read, Seek, Lock, Check, Update, Make, Link, Release, Answer, TooOld, VersionsFull, Added, KeysFull, New, Found, None, Effect, Process}
+use Rattle.linearizability.specs.Types.{Phase, Walk, Read, Seek, Lock, Check, Update, Make, Link, Release, Class, Inserted, OtherPut, Hit, Miss, Effect, Process}
 use Rattle.model.specs.Layout.{Memory, key, top, next, lock}
+use Rattle.model.specs.Roles.{classOf}
 use Rattle.linearizability.proofs.Invariant.{Ghost, In, At, Placed, Clear, Target, FoundAt, Made, Holds, Stage, StageOf, Settled, Ok, Fits}
 
 -- nodes stay, with their keys, and are linked higher; those of process i have their top and are as high as they were
@@ -66,14 +67,11 @@ module _ {m m′ : Memory} {g g′ : Ghost} {i : ℕ} (F : Grown m m′ g g′ i
   pub stage-of-kept : (pr : Process) → StageOf m g i pr → StageOf m′ g′ i pr
   stage-of-kept pr c = stage-kept (pr .effect) (pr .call .top) (pr .cursor .made) (pr .call .key) (pr .cursor .level) c
 
-  pub settled-kept : (tp x k l : ℕ) (a : Answer) → Settled m g i tp x k l a → Settled m′ g′ i tp x k l a
-  settled-kept tp x k l TooOld c = c
-  settled-kept tp x k l VersionsFull c = c
-  settled-kept tp x k l Added c = c
-  settled-kept tp x k l KeysFull c = c
-  settled-kept tp x k l New c = (c .0, made-kept (c .1))
-  settled-kept tp x k l Found c = c
-  settled-kept tp x k l None c = c
+  pub settled-kept : (tp x k l : ℕ) (a : Class) → Settled m g i tp x k l a → Settled m′ g′ i tp x k l a
+  settled-kept tp x k l Inserted c = (c .0, made-kept (c .1))
+  settled-kept tp x k l OtherPut c = c
+  settled-kept tp x k l Hit c = c
+  settled-kept tp x k l Miss c = c
 
   pub found-kept : {l p k : ℕ} → FoundAt m l p k → FoundAt m′ l p k
   found-kept {l} {p} {k} f =
@@ -104,56 +102,45 @@ module _ {m m′ : Memory} {g g′ : Ghost} {i : ℕ} (F : Frame m m′ g g′ i
         key-is = rw e (F .grown .keys (next (m .nodes) l p) (t .used) ∙ t .key-is);
       }
 
-  ok-kept : (pr : Process) (k : Kind) (ph : Phase) → Ok m g i pr k ph → Ok m′ g′ i pr k ph
-  ok-kept pr Idle ph c = c
-  ok-kept pr Get Walk c = (placed-kept (F .grown) (c .0), c .1)
-  ok-kept pr Get Read c = (found-kept (F .grown) (c .0), c .1)
-  ok-kept pr Get Seek c = c
-  ok-kept pr Get Lock c = c
-  ok-kept pr Get Check c = c
-  ok-kept pr Get Update c = c
-  ok-kept pr Get Make c = c
-  ok-kept pr Get Link c = c
-  ok-kept pr Get Release c = c
-  ok-kept pr Put Walk c = (placed-kept (F .grown) (c .0), c .1)
-  ok-kept pr Put Read c = c
-  ok-kept pr Put Seek c = (placed-kept (F .grown) (c .0), stage-of-kept (F .grown) pr (c .1))
-  ok-kept pr Put Lock c = (placed-kept (F .grown) (c .0), stage-of-kept (F .grown) pr (c .1))
-  ok-kept pr Put Check c =
+  ok-kept : (pr : Process) (ph : Phase) → Ok m g i pr ph → Ok m′ g′ i pr ph
+  ok-kept pr Walk c = (placed-kept (F .grown) (c .0), c .1)
+  ok-kept pr Read c = (found-kept (F .grown) (c .0), c .1)
+  ok-kept pr Seek c = (placed-kept (F .grown) (c .0), stage-of-kept (F .grown) pr (c .1))
+  ok-kept pr Lock c = (placed-kept (F .grown) (c .0), stage-of-kept (F .grown) pr (c .1))
+  ok-kept pr Check c =
       (placed-kept (F .grown) (c .0), stage-of-kept (F .grown) pr (c .1), held-kept (c .0 .spot) (c .2))
-  ok-kept pr Put Update c = (
+  ok-kept pr Update c = (
     placed-kept (F .grown) (c .0),
     stage-of-kept (F .grown) pr (c .1),
     held-kept (c .0 .spot) (c .2),
     c .3,
     target-kept (c .0 .spot) (c .2) (c .4),
   )
-  ok-kept pr Put Make c = (
+  ok-kept pr Make c = (
     placed-kept (F .grown) (c .0),
     stage-of-kept (F .grown) pr (c .1),
     held-kept (c .0 .spot) (c .2),
     c .3,
     clear-kept (c .0 .spot) (c .2) (c .4),
   )
-  ok-kept pr Put Link c = (
+  ok-kept pr Link c = (
     placed-kept (F .grown) (c .0),
     stage-of-kept (F .grown) pr (c .1),
     held-kept (c .0 .spot) (c .2),
     c .3,
     clear-kept (c .0 .spot) (c .2) (c .4),
   )
-  ok-kept pr Put Release c = (
+  ok-kept pr Release c = (
     placed-kept (F .grown) (c .0),
     c .1,
     held-kept (c .0 .spot) (c .2),
-    settled-kept (F .grown) (pr .call .top) (pr .cursor .made) (pr .call .key) (pr .cursor .level) (pr .effect .answer) (c .3),
+    settled-kept (F .grown) (pr .call .top) (pr .cursor .made) (pr .call .key) (pr .cursor .level) (classOf (pr .effect .answer)) (c .3),
   )
 
   pub fits-kept : {pr : Process} → Fits m g i pr → Fits m′ g′ i pr
   fits-kept {pr} f = record {
-    kind = f .kind;
     phase = f .phase;
-    kind-is = f .kind-is;
     phase-is = f .phase-is;
-    ok = ok-kept pr (f .kind) (f .phase) (f .ok);
+    role = f .role;
+    ok = λ n. ok-kept pr (f .phase) (f .ok n);
   }

@@ -4,10 +4,12 @@ use Prim.Native.Nat.{ℕ, zero, suc, _+_, _*_, _≤_, _<_}
 use mathlib.Core.List.{List, [], _∷_}
 use mathlib.Core.Logic.{_≢_}
 use mathlib.Core.Path.{_≡_}
+use lib.Dec.{T}
 use lib.ListN.{length, getD}
-use Rattle.linearizability.specs.Types.{Kind, Idle, Put, Get, Phase, Walk, Read, Seek, Lock, Check, Update, Make, Link, Release, Answer, TooOld, VersionsFull, Added, KeysFull, New, Found, None, Effect, Process, Version}
+use Rattle.linearizability.specs.Types.{Idle, Phase, Walk, Read, Seek, Lock, Check, Update, Make, Link, Release, Class, Inserted, OtherPut, Hit, Miss, None, Effect, Process, Version}
 use Rattle.model.specs.Layout.{Memory, nodeWords, versionWords, key, newest, top, next, lock, value, timestamp, prev}
 use Rattle.model.specs.Map.{Map, held}
+use Rattle.model.specs.Roles.{isPut, isGet, roleOf, plays, classOf}
 use Rattle.model.specs.Phases.{maxNodes, maxVersions}
 use Rattle.linearizability.proofs.Level.{Level}
 use Rattle.linearizability.proofs.MapLaws.{no-entry}
@@ -116,23 +118,20 @@ Unset e = (e .tick ≡ 0) × (e .answer ≡ None)
 -- a put before its release: without effect at level 0, climbing with its node above
 abbrev pub Stage : Memory → Ghost → ℕ → Effect → (top made key level : ℕ) → Type 0
 Stage m g i e tp x k zero = Unset e
-Stage m g i e tp x k (suc l) = (e .tick ≢ 0) × (e .answer ≡ New) × (suc l ≤ tp) × Made m g i x k tp (suc l)
+Stage m g i e tp x k (suc l) = (e .tick ≢ 0) × (classOf (e .answer) ≡ Inserted) × (suc l ≤ tp) × Made m g i x k tp (suc l)
 
 -- a put at its release
-abbrev pub Settled : Memory → Ghost → ℕ → (top made key level : ℕ) → Answer → Type 0
-Settled m g i tp x k l TooOld = Unit {0}
-Settled m g i tp x k l VersionsFull = Unit {0}
-Settled m g i tp x k l Added = Unit {0}
-Settled m g i tp x k l KeysFull = Unit {0}
-Settled m g i tp x k l New = (l ≤ tp) × Made m g i x k tp (suc l)
-Settled m g i tp x k l Found = ⊥
-Settled m g i tp x k l None = ⊥
+abbrev pub Settled : Memory → Ghost → ℕ → (top made key level : ℕ) → Class → Type 0
+Settled m g i tp x k l Inserted = (l ≤ tp) × Made m g i x k tp (suc l)
+Settled m g i tp x k l OtherPut = Unit {0}
+Settled m g i tp x k l Hit = ⊥
+Settled m g i tp x k l Miss = ⊥
 
 abbrev pub StageOf : Memory → Ghost → ℕ → Process → Type 0
 StageOf m g i pr = Stage m g i (pr .effect) (pr .call .top) (pr .cursor .made) (pr .call .key) (pr .cursor .level)
 
 abbrev pub SettledOf : Memory → Ghost → ℕ → Process → Type 0
-SettledOf m g i pr = Settled m g i (pr .call .top) (pr .cursor .made) (pr .call .key) (pr .cursor .level) (pr .effect .answer)
+SettledOf m g i pr = Settled m g i (pr .call .top) (pr .cursor .made) (pr .call .key) (pr .cursor .level) (classOf (pr .effect .answer))
 
 abbrev pub HoldsOf : Memory → ℕ → Process → Type 0
 HoldsOf m i pr = Holds m i (pr .cursor .level) (pr .cursor .pred)
@@ -146,40 +145,39 @@ TargetOf m pr = Target m (pr .cursor .level) (pr .cursor .pred) (pr .call .key)
 abbrev pub FoundOf : Memory → Process → Type 0
 FoundOf m pr = FoundAt m (pr .cursor .level) (pr .cursor .pred) (pr .call .key)
 
--- what is known of a process by its kind and phase
-abbrev pub Ok : Memory → Ghost → ℕ → Process → Kind → Phase → Type 0
-Ok m g i pr Idle ph = Unit {0}
-Ok m g i pr Get Walk = PlacedOf m g pr × Unset (pr .effect)
-Ok m g i pr Get Read = FoundOf m pr × (pr .effect .tick ≡ 0)
-Ok m g i pr Get Seek = ⊥
-Ok m g i pr Get Lock = ⊥
-Ok m g i pr Get Check = ⊥
-Ok m g i pr Get Update = ⊥
-Ok m g i pr Get Make = ⊥
-Ok m g i pr Get Link = ⊥
-Ok m g i pr Get Release = ⊥
-Ok m g i pr Put Walk = PlacedOf m g pr × Unset (pr .effect)
-Ok m g i pr Put Read = ⊥
-Ok m g i pr Put Seek = PlacedOf m g pr × StageOf m g i pr
-Ok m g i pr Put Lock = PlacedOf m g pr × StageOf m g i pr
-Ok m g i pr Put Check = PlacedOf m g pr × StageOf m g i pr × HoldsOf m i pr
-Ok m g i pr Put Update = PlacedOf m g pr × StageOf m g i pr × HoldsOf m i pr × (pr .cursor .level ≡ 0) × TargetOf m pr
-Ok m g i pr Put Make = PlacedOf m g pr × StageOf m g i pr × HoldsOf m i pr × (pr .cursor .level ≡ 0) × ClearOf m pr
-Ok m g i pr Put Link = PlacedOf m g pr × StageOf m g i pr × HoldsOf m i pr × (1 ≤ pr .cursor .level) × ClearOf m pr
-Ok m g i pr Put Release = PlacedOf m g pr × (pr .effect .tick ≢ 0) × HoldsOf m i pr × SettledOf m g i pr
+-- what is known of a call by its phase
+abbrev pub Ok : Memory → Ghost → ℕ → Process → Phase → Type 0
+Ok m g i pr Walk = PlacedOf m g pr × Unset (pr .effect)
+Ok m g i pr Read = FoundOf m pr × (pr .effect .tick ≡ 0)
+Ok m g i pr Seek = PlacedOf m g pr × StageOf m g i pr
+Ok m g i pr Lock = PlacedOf m g pr × StageOf m g i pr
+Ok m g i pr Check = PlacedOf m g pr × StageOf m g i pr × HoldsOf m i pr
+Ok m g i pr Update = PlacedOf m g pr × StageOf m g i pr × HoldsOf m i pr × (pr .cursor .level ≡ 0) × TargetOf m pr
+Ok m g i pr Make = PlacedOf m g pr × StageOf m g i pr × HoldsOf m i pr × (pr .cursor .level ≡ 0) × ClearOf m pr
+Ok m g i pr Link = PlacedOf m g pr × StageOf m g i pr × HoldsOf m i pr × (1 ≤ pr .cursor .level) × ClearOf m pr
+Ok m g i pr Release = PlacedOf m g pr × (pr .effect .tick ≢ 0) × HoldsOf m i pr × SettledOf m g i pr
 
--- the process is in order
+abbrev pub Puts : Process → Type 0
+Puts pr = T (isPut (pr .call .kind))
+
+abbrev pub Gets : Process → Type 0
+Gets pr = T (isGet (pr .call .kind))
+
+-- the process is in order: what call it has goes through its phase, and what is known there holds
 pub record Fits (m : Memory) (g : Ghost) (i : ℕ) (pr : Process) : Type 0 where
-  pub kind : Kind
   pub phase : Phase
-  pub kind-is : pr .call .kind ≡ kind
   pub phase-is : pr .cursor .phase ≡ phase
-  pub ok : Ok m g i pr kind phase
+  pub role : pr .call .kind ≢ Idle → T (plays (pr .call .kind) (roleOf phase))
+  pub ok : pr .call .kind ≢ Idle → Ok m g i pr phase
+
+pub fits-at : {m : Memory} {g : Ghost} {i : ℕ} {pr : Process} (ph : Phase) → pr .cursor .phase ≡ ph
+    → T (plays (pr .call .kind) (roleOf ph)) → Ok m g i pr ph → Fits m g i pr
+fits-at ph e r o = record { phase = ph; phase-is = e; role = λ n. r; ok = λ n. o }
 
 -- the put has made node x and is still at work on it
 pub record Climbs (pr : Process) (x : ℕ) : Type 0 where
-  pub kind : pr .call .kind ≡ Put
-  pub answer : pr .effect .answer ≡ New
+  pub kind : Puts pr
+  pub answer : classOf (pr .effect .answer) ≡ Inserted
   pub made : pr .cursor .made ≡ x
 
 -- a node that the process has not in hand is linked up to its top: kept by a step, at one node

@@ -5,15 +5,16 @@ use mathlib.Core.Logic.{_≢_}
 use mathlib.Core.Path.{_≡_, refl, sym, ap, _∙_, subst}
 use native.Mathlib.Omega.{arith}
 use lib.ListN.{length}
-use Rattle.linearizability.specs.Types.{Put, Release, New, Cursor, Process, Go}
+use Rattle.linearizability.specs.Types.{Release, Inserted, Cursor, Process, Go}
 use Rattle.model.specs.Layout.{Memory, nodeWords, capacity, word, key, top, next, lock, withNext}
 use Rattle.model.specs.Map.{Map}
 use Rattle.model.specs.Phases.{at, usedNode, addLink, linkOf}
 use Rattle.model.specs.Calls.{processAfter}
+use Rattle.model.specs.Roles.{classOf}
 use Rattle.model.proofs.Tests.{if-by, by-eq, T-absurd}
 use Rattle.model.proofs.Words.{same-key, length-word, word-same, word-node, word-other}
 use Rattle.linearizability.proofs.Level.{Level, inserted, kept}
-use Rattle.linearizability.proofs.Invariant.{Ghost, In, Nodes, Book, At, PlacedOf, Clear, ClearOf, Made, HoldsOf, Stage, StageOf, Climbs, Risen}
+use Rattle.linearizability.proofs.Invariant.{Ghost, In, Nodes, Book, At, PlacedOf, Clear, ClearOf, Made, HoldsOf, Stage, StageOf, Puts, fits-at, Climbs, Risen}
 use Rattle.linearizability.proofs.Frame.{Grown, Frame, placed-kept}
 use Rattle.linearizability.proofs.Step.{Good, Result, within-T}
 use Rattle.linearizability.proofs.Make.{changed, changed-same, changed-other}
@@ -188,18 +189,18 @@ module _ (m : Memory) (g : Ghost) (s lv p x k tp : ℕ) (N : Nodes m g) (a : At 
       (λ ne. high-old z ne ∙ old h (λ c. ne (sym (c .made) ∙ ex)) ∙ ap suc (sym (tops z)))
 
 module _ (m : Memory) (g : Ghost) (s : ℕ) (pr : Process) (tick : ℕ) (b : Map) (N : Nodes m g) (B : Book m b)
-    (ek : pr .call .kind ≡ Put)
+    (w : Puts pr)
     (q : PlacedOf m g pr) (h : HoldsOf m s pr) (cl : ClearOf m pr) where
   abbrev c : Cursor
   c = pr .cursor
 
   -- above level 0 the put has its node
   climbing : (l : ℕ) → 1 ≤ l → Stage m g s (pr .effect) (pr .call .top) (c .made) (pr .call .key) l
-      → (pr .effect .tick ≢ 0) × (pr .effect .answer ≡ New) × (l ≤ pr .call .top) × Made m g s (c .made) (pr .call .key) (pr .call .top) l
+      → (pr .effect .tick ≢ 0) × (classOf (pr .effect .answer) ≡ Inserted) × (l ≤ pr .call .top) × Made m g s (c .made) (pr .call .key) (pr .call .top) l
   climbing zero pos st = absurd (omega arith)
   climbing (suc l) pos st = st
 
-  linked : (pr .effect .tick ≢ 0) → (pr .effect .answer ≡ New) → (c .level ≤ pr .call .top)
+  linked : (pr .effect .tick ≢ 0) → (classOf (pr .effect .answer) ≡ Inserted) → (c .level ≤ pr .call .top)
       → (f : Made m g s (c .made) (pr .call .key) (pr .call .top) (c .level))
       → Good m g s pr tick b (Go (at c Release (c .level) (c .pred))) (addLink c m)
   unfolding addLink processAfter
@@ -210,22 +211,16 @@ module _ (m : Memory) (g : Ghost) (s : ℕ) (pr : Process) (tick : ℕ) (b : Map
     b′ = b;
     nodes = link-nodes m g s (c .level) (c .pred) (c .made) (pr .call .key) (pr .call .top) N (q .spot) cl h f;
     book = link-book m g s (c .level) (c .pred) (c .made) (pr .call .key) (pr .call .top) N (q .spot) cl h f B;
-    fits = record {
-      kind = Put;
-      phase = Release;
-      kind-is = ek;
-      phase-is = refl;
-      ok = (
+    fits = fits-at Release refl w (
         placed-kept (link-grown m g s (c .level) (c .pred) (c .made) (pr .call .key) (pr .call .top) N (q .spot) cl h f (suc s) (omega arith)) q,
         ne,
         locks-old m g s (c .level) (c .pred) (c .made) (pr .call .key) (pr .call .top) N (q .spot) cl h f (c .level) (c .pred) (q .spot .used, q .spot .up) ∙ h,
         rw ea (le, link-made m g s (c .level) (c .pred) (c .made) (pr .call .key) (pr .call .top) N (q .spot) cl h f),
       );
-    };
     frame = link-frame m g s (c .level) (c .pred) (c .made) (pr .call .key) (pr .call .top) N (q .spot) cl h f;
     does = (refl, refl);
     risen = link-risen m g s (c .level) (c .pred) (c .made) (pr .call .key) (pr .call .top) N (q .spot) cl h f pr
-        (processAfter tick pr (Go (at c Release (c .level) (c .pred)))) refl (record { kind = ek; answer = ea; made = refl });
+        (processAfter tick pr (Go (at c Release (c .level) (c .pred)))) refl (record { kind = w; answer = ea; made = refl });
   }
 
   pub link-good : 1 ≤ c .level → StageOf m g s pr → Result m g s pr tick b (linkOf c m)

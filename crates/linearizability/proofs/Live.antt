@@ -13,12 +13,13 @@ use Rattle.model.specs.Choice.{if_then_else_}
 use Rattle.model.specs.Layout.{Memory, nodeWords, versionWords, capacity, top}
 use Rattle.model.specs.Map.{Map}
 use Rattle.model.specs.Numbers.{placeOf}
-use Rattle.model.specs.State.{noProcess, idleProcess, processAt, memoryOf, withEvent, lawfulNodes, lawfulVersions, lawfulState, lawfulStore, isIdle}
+use Rattle.model.specs.State.{noProcess, idleProcess, processAt, memoryOf, withEvent, lawfulNodes, lawfulVersions, lawfulState, lawfulStore}
 use Rattle.model.specs.Phases.{ownVersion, maxNodes, maxVersions}
 use Rattle.model.specs.Calls.{callFor, Store, standing, statusPermit, statusBy, statusOf}
 use Rattle.model.specs.Requests.{Operation, put, get, kindOf}
 use Rattle.model.specs.History.{Action, Invoked, Pending, no-call, has-call, pendingAt, isFree, Completed}
 use Rattle.model.specs.Linearizability.{All, Any, countedAt}
+use Rattle.model.specs.Roles.{isIdle}
 use Rattle.model.proofs.Tests.{is-true, by-eq, if-yes, if-no, eq→eqb, ne→neqb}
 use Rattle.linearizability.proofs.Invariant.{Ghost, Nodes, Book, Fits, Climbs}
 use Rattle.linearizability.proofs.Locks.{Named}
@@ -161,13 +162,11 @@ status-beyond {w} c i le = rw (
 -- ---- small laws
 
 pub one-busy : (k : Kind) → k ≢ Idle → _≡_ {A = ℕ} (if isIdle k then 0 else 1) 1
-unfolding isIdle
 one-busy Idle ne = absurd (ne refl)
 one-busy Put ne = refl
 one-busy Get ne = refl
 
 pub none-busy : (k : Kind) → k ≡ Idle → _≡_ {A = ℕ} (if isIdle k then 0 else 1) 0
-unfolding isIdle
 none-busy k e = rw e refl
 
 -- a process keeps a kind just when it has a call
@@ -181,7 +180,6 @@ kind≢idle (put k v t draw) e = let z : _≡_ {A = ℕ} 0 1 = cc in omega arith
 kind≢idle (get k) e = let z : _≡_ {A = ℕ} 0 1 = cc in omega arith
 
 pub idle-free : (c : Pending) → isIdle (keptOf c .kind) ≡ isFree c
-unfolding isIdle
 idle-free no-call = refl
 idle-free (has-call c) = by (c .operation)
   where

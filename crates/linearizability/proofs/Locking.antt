@@ -6,14 +6,14 @@ use mathlib.Core.Path.{_≡_, refl, sym, ap, _∙_, subst}
 use native.Mathlib.Omega.{arith}
 use native.Mathlib.Numerals.{add-one}
 use lib.ListN.{getD}
-use Rattle.linearizability.specs.Types.{Put, Phase, Seek, Lock, Check, Update, Make, Link, Answer, TooOld, VersionsFull, Added, KeysFull, New, Found, None, Call, Cursor, Process, Ahead, Unused, Less, Equal, Past, Move, Wait, Go}
+use Rattle.linearizability.specs.Types.{Phase, Seek, Lock, Check, Update, Make, Link, Class, Inserted, OtherPut, Hit, Miss, Call, Cursor, Process, Ahead, Unused, Less, Equal, Past, Move, Wait, Go, End}
 use Rattle.model.specs.Layout.{Memory, topLevel, key, top, next, lock}
 use Rattle.model.specs.Map.{Map}
-use Rattle.model.specs.Numbers.{placeOf, noVersion, versionWith}
-use Rattle.model.specs.Phases.{Moved, at, ownVersion, ended, ahead, withHolder, lockOf, checkBy, checkOf, isNew, rise, released, freed, releaseOf}
+use Rattle.model.specs.Phases.{Moved, at, ownVersion, ahead, withHolder, lockOf, checkBy, checkOf, rise, released, freed, releaseOf}
 use Rattle.model.specs.Calls.{processAfter}
+use Rattle.model.specs.Roles.{classOf, isNew}
 use Rattle.model.proofs.Tests.{if-eq, if-le, if-lt}
-use Rattle.linearizability.proofs.Invariant.{Ghost, Nodes, Book, At, PlacedOf, Made, Stage, StageOf, Settled, SettledOf, HoldsOf, Fits, Climbs}
+use Rattle.linearizability.proofs.Invariant.{Ghost, Nodes, Book, At, PlacedOf, Made, Stage, StageOf, Settled, SettledOf, HoldsOf, Puts, Fits, fits-at, Climbs}
 use Rattle.linearizability.proofs.Frame.{Grown, Frame, placed-kept, stage-of-kept, stage-kept}
 use Rattle.linearizability.proofs.Alike.{lock-alike, lock-set, lock-book, lock-frame, nodes-kept, grown-alike, risen-alike, risen-same}
 use Rattle.linearizability.proofs.Step.{Does, Good, Result, Related, related, link-in, not-unused, along, level6, idle-fits, still, goes}
@@ -30,9 +30,9 @@ module _ (m : Memory) (g : Ghost) (i : ℕ) (pr : Process) (tick : ℕ) (b : Map
 
   -- ---- lock
 
-  pub lock-good : call .kind ≡ Put → c .phase ≡ Lock → PlacedOf m g pr → StageOf m g i pr → R (lockOf c (i + 1) m)
+  pub lock-good : Puts pr → c .phase ≡ Lock → PlacedOf m g pr → StageOf m g i pr → R (lockOf c (i + 1) m)
   unfolding lockOf processAfter
-  lock-good ek ep q s = if-eq R (lock (m .nodes) (c .level) (c .pred)) 0
+  lock-good w ep q s = if-eq R (lock (m .nodes) (c .level) (c .pred)) 0
       (λ e.
       let l6 = level6 m g b N B (q .spot) in
       let a = lock-alike m g N c (i + 1) l6 (q .spot .used) in
@@ -44,19 +44,13 @@ module _ (m : Memory) (g : Ghost) (i : ℕ) (pr : Process) (tick : ℕ) (b : Map
         b′ = b;
         nodes = nodes-kept a N;
         book = lock-book m g N c (i + 1) l6 (q .spot .used) B;
-        fits = record {
-          kind = Put;
-          phase = Check;
-          kind-is = ek;
-          phase-is = refl;
-          ok =
-              (placed-kept (f i .grown) q, stage-of-kept (f i .grown) pr s, lock-set m g N c (i + 1) l6 (q .spot .used) ∙ add-one i);
-        };
+        fits = fits-at Check refl w
+            (placed-kept (f i .grown) q, stage-of-kept (f i .grown) pr s, lock-set m g N c (i + 1) l6 (q .spot .used) ∙ add-one i);
         frame = λ j ne. f j;
         does = (refl, refl);
         risen = risen-same a (λ x k. record { kind = k .kind; answer = k .answer; made = k .made });
       })
-      (λ ne. still m g i pr tick b N B Wait (record { kind = Put; phase = Lock; kind-is = ek; phase-is = ep; ok = (q, s) }) refl
+      (λ ne. still m g i pr tick b N B Wait (fits-at Lock ep w (q, s)) refl
       (risen-same (Rattle.linearizability.proofs.Alike.alike-refl m g) (λ x k. k)))
 
   -- ---- the lock given back
@@ -90,20 +84,14 @@ module _ (m : Memory) (g : Ghost) (i : ℕ) (pr : Process) (tick : ℕ) (b : Map
       clash j ne e = omega arith
 
   -- the put goes on to seek, from p at level l, with what it has in hand
-  seek-again : (l p : ℕ) → call .kind ≡ Put → PlacedOf m g pr → HoldsOf m i pr → At m g l p (call .key)
+  seek-again : (l p : ℕ) → Puts pr → PlacedOf m g pr → HoldsOf m i pr → At m g l p (call .key)
       → Stage m g i (pr .effect) (call .top) (c .made) (call .key) l → Good m g i pr tick b (Go (at c Seek l p)) free
   unfolding processAfter
-  seek-again l p ek q h a s = free-good (Go (at c Seek l p)) q h
-      (record {
-        kind = Put;
-        phase = Seek;
-        kind-is = ek;
-        phase-is = refl;
-        ok = (
-          placed-kept (free-grown q) (record { top5 = q .top5; six = q .six; spot = a; memo = q .memo }),
-          stage-kept (free-grown q) (pr .effect) (call .top) (c .made) (call .key) l s,
-        );
-      })
+  seek-again l p w q h a s = free-good (Go (at c Seek l p)) q h
+      (fits-at Seek refl w (
+        placed-kept (free-grown q) (record { top5 = q .top5; six = q .six; spot = a; memo = q .memo }),
+        stage-kept (free-grown q) (pr .effect) (call .top) (c .made) (call .key) l s,
+      ))
       (refl, refl)
       (λ x u k no-more. absurd (no-more (record { kind = k .kind; answer = k .answer; made = k .made })))
 
@@ -134,74 +122,64 @@ module _ (m : Memory) (g : Ghost) (i : ℕ) (pr : Process) (tick : ℕ) (b : Map
   stage-up zero el ne s = absurd (ne refl)
   stage-up (suc j) el ne s = (j, refl, subst (λ l. Stage m g i (pr .effect) (call .top) (c .made) (call .key) l) el s)
 
-  check-by-good : (a : Ahead) → Related m (c .level) (c .pred) (call .key) a → call .kind ≡ Put → PlacedOf m g pr
+  check-by-good : (a : Ahead) → Related m (c .level) (c .pred) (call .key) a → Puts pr → PlacedOf m g pr
       → StageOf m g i pr → HoldsOf m i pr
       → R (checkBy c m a)
   unfolding checkBy
-  check-by-good Unused r ek q s h = absurd (not-unused m g b N B (q .spot) r)
-  check-by-good (Less y) r ek q s h = seek-again (c .level) y ek q h (along m g b N B (q .spot) r) s
-  check-by-good (Equal y) r ek q s h = if-eq (Goes Update) (c .level) 0
-      (λ el. to-phase Update (record { kind = Put; phase = Update; kind-is = ek; phase-is = refl; ok = (q, s, h, el, r .1) }))
+  check-by-good Unused r w q s h = absurd (not-unused m g b N B (q .spot) r)
+  check-by-good (Less y) r w q s h = seek-again (c .level) y w q h (along m g b N B (q .spot) r) s
+  check-by-good (Equal y) r w q s h = if-eq (Goes Update) (c .level) 0
+      (λ el. to-phase Update (fits-at Update refl w (q, s, h, el, r .1)))
       (λ ne. let u = stage-up (c .level) refl ne s in absurd (no-twin (u .0) (u .1) q (u .2) y r))
-  check-by-good Past r ek q s h = if-eq (Goes Make) (c .level) 0
-      (λ el. to-phase Make (record { kind = Put; phase = Make; kind-is = ek; phase-is = refl; ok = (q, s, h, el, r) }))
-      (λ ne. to-phase Link (record { kind = Put; phase = Link; kind-is = ek; phase-is = refl; ok = (q, s, h, omega arith, r) }))
+  check-by-good Past r w q s h = if-eq (Goes Make) (c .level) 0
+      (λ el. to-phase Make (fits-at Make refl w (q, s, h, el, r)))
+      (λ ne. to-phase Link (fits-at Link refl w (q, s, h, omega arith, r)))
 
-  pub check-good : call .kind ≡ Put → PlacedOf m g pr → StageOf m g i pr → HoldsOf m i pr → R (checkOf call c m)
+  pub check-good : Puts pr → PlacedOf m g pr → StageOf m g i pr → HoldsOf m i pr → R (checkOf call c m)
   unfolding checkOf
-  check-good ek q s h =
-      check-by-good (ahead m (c .level) (c .pred) (call .key)) (related m (c .level) (c .pred) (call .key)) ek q s h
+  check-good w q s h =
+      check-by-good (ahead m (c .level) (c .pred) (call .key)) (related m (c .level) (c .pred) (call .key)) w q s h
 
   -- ---- release
 
   -- the call ends with the answer it had
-  end-good : (a : Answer) → a ≡ pr .effect .answer → versionWith a (ownVersion call) noVersion ≡ ownVersion call
-      → call .kind ≡ Put → pr .effect .tick ≢ 0
-      → PlacedOf m g pr → HoldsOf m i pr → ((x : ℕ) → Climbs pr x → g .high x ≡ suc (top (m .nodes) x))
-      → Good m g i pr tick b (ended call a noVersion (pr .effect .tick)) free
+  end-good : Puts pr → pr .effect .tick ≢ 0 → PlacedOf m g pr → HoldsOf m i pr
+      → ((x : ℕ) → Climbs pr x → g .high x ≡ suc (top (m .nodes) x))
+      → Good m g i pr tick b (End (pr .effect .answer) (ownVersion call) (pr .effect .tick)) free
   unfolding processAfter
-  end-good a ea ev ek ne q h give = free-good (ended call a noVersion (pr .effect .tick)) q h (idle-fits free g i)
-      (refl, inr (ek, ne, refl, ea, ev)) (λ x u k no-more. give x k)
+  end-good w ne q h give = free-good (End (pr .effect .answer) (ownVersion call) (pr .effect .tick)) q h (idle-fits free g i)
+      (refl, inr (w, ne, refl, refl, refl)) (λ x u k no-more. give x k)
 
-  rise-good : (a : Answer) → a ≡ New → pr .effect .answer ≡ a → call .kind ≡ Put → pr .effect .tick ≢ 0 → PlacedOf m g pr
-      → HoldsOf m i pr
+  rise-good : classOf (pr .effect .answer) ≡ Inserted → Puts pr → pr .effect .tick ≢ 0 → PlacedOf m g pr → HoldsOf m i pr
       → (c .level ≤ call .top) × Made m g i (c .made) (call .key) (call .top) (suc (c .level))
-      → R (freed c m (rise call c (pr .preds) m (ended call New noVersion (pr .effect .tick))))
+      → R (freed c m (rise call c (pr .preds) m (End (pr .effect .answer) (ownVersion call) (pr .effect .tick))))
   unfolding rise freed
-  rise-good a en ea ek ne q h s =
+  rise-good ec w ne q h s =
       let up = getD (pr .preds) (c .level + 1) 0 in
       let P : Move → Type 0 = λ v. R (freed c m v) in
       if-lt P topLevel (call .top) (λ t. absurd (omega (arith, q .top5))) λ t.
       if-le P (call .top) (c .level)
-      (λ ge. end-good New (sym (ea ∙ en)) refl ek ne q h (λ x k.
+      (λ ge. end-good w ne q h (λ x k.
       subst (λ y. g .high y ≡ suc (top (m .nodes) y)) (k .made) (let f = s .1 in omega (arith, f .height-is, f .top-is, s .0)))) λ lt.
       let a : At m g (c .level + 1) up (call .key) = q .memo (c .level + 1) (omega (arith, q .top5)) in
       if-lt P (m .counts .nodes) up
       (λ u. absurd (omega (arith, a .used)))
-      (λ u. seek-again (c .level + 1) up ek q h a (rw (add-one (c .level)) (ne, ea ∙ en, lt, s .1)))
+      (λ u. seek-again (c .level + 1) up w q h a (rw (add-one (c .level)) (ne, ec, lt, s .1)))
 
-  other-good : (a : Answer) → a ≢ New → pr .effect .answer ≡ a → versionWith a (ownVersion call) noVersion ≡ ownVersion call
-      → call .kind ≡ Put
-      → pr .effect .tick ≢ 0 → PlacedOf m g pr → HoldsOf m i pr → R (freed c m (ended call a noVersion (pr .effect .tick)))
-  unfolding freed
-  other-good a nn ea ev ek ne q h = end-good a (sym ea) ev ek ne q h (λ x k. absurd (nn (sym ea ∙ k .answer)))
+  other≢inserted : OtherPut ≡ Inserted → ⊥
+  other≢inserted e = let z : _≡_ {A = ℕ} 0 1 = cc in omega arith
 
-  release-by-good : (a : Answer) → pr .effect .answer ≡ a → call .kind ≡ Put → pr .effect .tick ≢ 0 → PlacedOf m g pr
+  release-by-good : (k : Class) → classOf (pr .effect .answer) ≡ k → Puts pr → pr .effect .tick ≢ 0 → PlacedOf m g pr
       → HoldsOf m i pr
-      → Settled m g i (call .top) (c .made) (call .key) (c .level) a
-      → R (freed c m (released call c (record { answer = a; tick = pr .effect .tick }) (pr .preds) m))
-  unfolding released isNew placeOf
-  release-by-good TooOld ea ek ne q h s = other-good TooOld (λ e. let z : _≡_ {A = ℕ} 0 1 = cc in omega arith) ea refl ek ne q h
-  release-by-good VersionsFull ea ek ne q h s =
-      other-good VersionsFull (λ e. let z : _≡_ {A = ℕ} 0 1 = cc in omega arith) ea refl ek ne q h
-  release-by-good Added ea ek ne q h s = other-good Added (λ e. let z : _≡_ {A = ℕ} 0 1 = cc in omega arith) ea refl ek ne q h
-  release-by-good KeysFull ea ek ne q h s =
-      other-good KeysFull (λ e. let z : _≡_ {A = ℕ} 0 1 = cc in omega arith) ea refl ek ne q h
-  release-by-good New ea ek ne q h s = rise-good New refl ea ek ne q h s
-  release-by-good Found ea ek ne q h s = absurd s
-  release-by-good None ea ek ne q h s = absurd s
+      → Settled m g i (call .top) (c .made) (call .key) (c .level) k
+      → R (freed c m (released call c (pr .effect) (pr .preds) m))
+  unfolding released freed
+  release-by-good Inserted ec w ne q h s = rw ec (rise-good ec w ne q h s)
+  release-by-good OtherPut ec w ne q h s = rw ec (end-good w ne q h (λ x k. absurd (other≢inserted (sym ec ∙ k .answer))))
+  release-by-good Hit ec w ne q h s = absurd s
+  release-by-good Miss ec w ne q h s = absurd s
 
-  pub release-good : call .kind ≡ Put → pr .effect .tick ≢ 0 → PlacedOf m g pr → HoldsOf m i pr → SettledOf m g i pr
+  pub release-good : Puts pr → pr .effect .tick ≢ 0 → PlacedOf m g pr → HoldsOf m i pr → SettledOf m g i pr
       → R (releaseOf call c (pr .effect) (pr .preds) m)
   unfolding releaseOf
-  release-good ek ne q h s = release-by-good (pr .effect .answer) refl ek ne q h s
+  release-good w ne q h s = release-by-good (classOf (pr .effect .answer)) refl w ne q h s

@@ -9,9 +9,10 @@ use lib.Dec.{eqb}
 use lib.ListN.{length}
 use Rattle.linearizability.specs.Types.{Idle, Phase, Walk, Read, Seek, Lock, Check, Update, Make, Link, Release, Answer, Cursor, Process, Ahead, Unused, Less, Equal, Past, Move, Refuse, Wait, Go, Note, Commit, End}
 use Rattle.model.specs.Layout.{Memory, topLevel, word, key, newest, next, lock, timestamp, withWord}
-use Rattle.model.specs.Phases.{Moved, moved, at, aheadOf, usedNode, usedVersion, maxNodes, maxVersions, withHolder, lockOf, checked, checkBy, checkOf, committed, addVersion, updateNode, updateAt, updateOf, addNode, makeOf, addLink, linkOf, released, freed, releaseOf, walkOf, readOf, seekOf, lawfulProcess, phaseOf, turnOf}
+use Rattle.model.specs.Phases.{Moved, moved, refuses, at, aheadOf, usedNode, usedVersion, maxNodes, maxVersions, withHolder, lockOf, checked, checkBy, checkOf, committed, addVersion, updateNode, updateAt, updateOf, addNode, makeOf, addLink, linkOf, released, freed, releaseOf, walkOf, readOf, seekOf, lawfulProcess, phaseOf, turnOf}
 use Rattle.model.specs.Calls.{processAfter}
-use Rattle.model.proofs.Tests.{if-by, if-eq, if-le, if-lt, by-eq}
+use Rattle.model.proofs.Laws.{refused-is}
+use Rattle.model.proofs.Tests.{if-by, if-eq, if-le, if-lt, by-eq, is-true}
 use Rattle.model.proofs.Words.{word-same, word-field, word-node, node-in, node-out, node-locks}
 
 -- the phases that hold the lock of p at L
@@ -186,12 +187,8 @@ module _ (m : Memory) (i : ℕ) (tick : ℕ) (pr : Process) (size : length (m .n
 
   release-locked : Holding (c .phase) → (v : Move) → L (freed c m v)
   unfolding freed
-  release-locked h Refuse = refused h
-  release-locked h Wait = free-locked Wait
-  release-locked h (Go d) = free-locked (Go d)
-  release-locked h (Note d) = free-locked (Note d)
-  release-locked h (Commit d a) = free-locked (Commit d a)
-  release-locked h (End a v t) = free-locked (End a v t)
+  release-locked h v = if-by (λ n. L (moved n v)) (refuses v)
+      (λ t. subst (λ u. L (moved m u)) (sym (refused-is v (is-true (refuses v) t))) (refused h)) (λ t. free-locked v)
 
   phase-locked : (ph : Phase) → c .phase ≡ ph → L (phaseOf ph (i + 1) tick pr m)
   unfolding phaseOf checkOf updateOf releaseOf

@@ -8,7 +8,7 @@ use native.Mathlib.Numerals.{add-one}
 use lib.Dec.{eqb, leb, nleb→lt}
 use lib.ListN.{length, getD, length-append, List·getD-append}
 use lib.Seq.{getD-at}
-use Rattle.linearizability.specs.Types.{Put, Release, VersionsFull, KeysFull, New, None, Call, Cursor, Process}
+use Rattle.linearizability.specs.Types.{Release, VersionsFull, KeysFull, New, None, Call, Cursor, Process}
 use Rattle.model.specs.Choice.{if_then_else_}
 use Rattle.model.specs.Layout.{Memory, nodeWords, versionWords, topLevel, capacity, word, field, key, newest, top, next, lock, nodeRecord, withNode, withNext, withVersion}
 use Rattle.model.specs.Map.{Entry, Map, answered, putBy, putIn}
@@ -18,7 +18,7 @@ use Rattle.model.proofs.Tests.{if-by, if-lt, if-yes, if-no, by-eq}
 use Rattle.model.proofs.Words.{same-key, written-key, length-word, word-same, word-node, word-other, length-node, node-in, node-out, length-version, version-in, version-out}
 use Rattle.linearizability.proofs.Level.{Level, absent, inserted, kept}
 use Rattle.linearizability.proofs.MapLaws.{no-entry, held-snoc}
-use Rattle.linearizability.proofs.Invariant.{Ghost, In, Nodes, Chain, Book, At, PlacedOf, Clear, ClearOf, Made, HoldsOf, Climbs, Risen}
+use Rattle.linearizability.proofs.Invariant.{Ghost, In, Nodes, Chain, Book, At, PlacedOf, Clear, ClearOf, Made, HoldsOf, Puts, fits-at, Climbs, Risen}
 use Rattle.linearizability.proofs.Frame.{Grown, Frame, placed-kept}
 use Rattle.linearizability.proofs.Step.{Good, Result, none-at, no-climb}
 use Rattle.linearizability.proofs.Update.{chain-kept, unwritten}
@@ -259,7 +259,7 @@ module _ (m : Memory) (g : Ghost) (s : ℕ) (call : Call) (p : ℕ) (b : Map) (N
         (λ q. absurd (free (subst (λ y. Climbs pr′ y) (sym q) k)))
 
 module _ (m : Memory) (g : Ghost) (s : ℕ) (pr : Process) (tick : ℕ) (b : Map) (N : Nodes m g) (B : Book m b) (tick-pos : tick ≢ 0)
-    (ek : pr .call .kind ≡ Put) (unset : pr .effect .tick ≡ 0) (ea : pr .effect .answer ≡ None) (q : PlacedOf m g pr) (h : HoldsOf m s pr)
+    (w : Puts pr) (unset : pr .effect .tick ≡ 0) (ea : pr .effect .answer ≡ None) (q : PlacedOf m g pr) (h : HoldsOf m s pr)
     (el : pr .cursor .level ≡ 0) (clear-l : ClearOf m pr) where
   abbrev c : Cursor
   c = pr .cursor
@@ -293,23 +293,17 @@ module _ (m : Memory) (g : Ghost) (s : ℕ) (pr : Process) (tick : ℕ) (b : Map
     b′ = b₁ m g s (pr .call) (c .pred) b N B;
     nodes = make-nodes m g s (pr .call) (c .pred) b N B at₀ clear₀ held₀ room space;
     book = make-book m g s (pr .call) (c .pred) b N B at₀ clear₀ held₀ room space;
-    fits = record {
-      kind = Put;
-      phase = Release;
-      kind-is = ek;
-      phase-is = refl;
-      ok = (
+    fits = fits-at Release refl w (
         placed-kept (make-grown m g s (pr .call) (c .pred) b N B at₀ clear₀ held₀ room space s) q,
         tick-pos,
         locks-old m g s (pr .call) (c .pred) b N B at₀ clear₀ held₀ room space (c .level) (c .pred) (q .spot .used, q .spot .up)
             ∙ h,
         (omega arith, rw el (make-made m g s (pr .call) (c .pred) b N B at₀ clear₀ held₀ room space)),
       );
-    };
     frame = make-frame m g s (pr .call) (c .pred) b N B at₀ clear₀ held₀ room space;
-    does = (ek, unset, e);
+    does = (w, unset, e);
     risen = make-risen m g s (pr .call) (c .pred) b N B at₀ clear₀ held₀ room space pr
-        (processAfter tick pr (committed c (m .counts .nodes + 1) New)) (record { kind = ek; answer = refl; made = refl }) (λ z k. no-climb ea z k);
+        (processAfter tick pr (committed c (m .counts .nodes + 1) New)) (record { kind = w; answer = refl; made = refl }) (λ z k. no-climb ea z k);
   }
 
   pub make-good : Result m g s pr tick b (makeOf (pr .call) c m)
@@ -318,8 +312,8 @@ module _ (m : Memory) (g : Ghost) (s : ℕ) (pr : Process) (tick : ℕ) (b : Map
       let R = Result m g s pr tick b in
       let full = leb (maxNodes m) (m .counts .nodes) in
       let full-versions = leb (maxVersions m) (m .counts .versions) in
-      if-by R full (λ t. unwritten m g s pr tick b N B tick-pos ek unset ea q h KeysFull tt (put-says ∙ if-yes full _ _ t)) λ t.
-      if-by R full-versions (λ u. unwritten m g s pr tick b N B tick-pos ek unset ea q h VersionsFull tt
+      if-by R full (λ t. unwritten m g s pr tick b N B tick-pos w unset ea q h KeysFull tt (put-says ∙ if-yes full _ _ t)) λ t.
+      if-by R full-versions (λ u. unwritten m g s pr tick b N B tick-pos w unset ea q h VersionsFull tt
       (put-says ∙ if-no full _ _ t ∙ if-yes full-versions _ _ u)) λ u.
       if-lt R topLevel (pr .call .top) (λ w. absurd (omega (arith, q .top5)))
       (λ w. written (nleb→lt (maxNodes m) (m .counts .nodes) t) (nleb→lt (maxVersions m) (m .counts .versions) u)

@@ -11,10 +11,11 @@ use Rattle.linearizability.specs.Types.{Idle, Walk, Refusal, Permit, Gra
 use Rattle.model.specs.Layout.{Memory, nodeWords, versionWords, limits, capacity, word, key, top, next, freshNodes}
 use Rattle.model.specs.Map.{held}
 use Rattle.model.specs.Numbers.{placeOf}
-use Rattle.model.specs.State.{idleProcess, noProcess, freshState, within, lawfulLength, lawfulNodes, lawfulVersions, isIdle}
+use Rattle.model.specs.State.{idleProcess, noProcess, freshState, within, lawfulLength, lawfulNodes, lawfulVersions}
 use Rattle.model.specs.Calls.{openDue, openPermit, Opened, openBy, openOf, Store}
 use Rattle.model.specs.ByValue.{freshStore}
 use Rattle.model.specs.Linearizability.{countedAt}
+use Rattle.model.specs.Roles.{isIdle}
 use Rattle.model.proofs.Tests.{if-by, and→, by-le}
 use Rattle.model.proofs.Words.{filled, zero-key, length-word, word-same, word-other}
 use Rattle.linearizability.proofs.Level.{Level}
@@ -170,8 +171,8 @@ module _ (nodes versions : List ℕ) (processes limit : ℕ) (law : Lawful nodes
     nodes = fresh-nodes;
     book = fresh-book;
     fits = λ i. fresh-slot (λ q. Fits m₀ g₀ i q)
-        (record { kind = Idle; phase = Walk; kind-is = refl; phase-is = refl; ok = tt })
-        (record { kind = Idle; phase = Walk; kind-is = refl; phase-is = refl; ok = tt }) i;
+        (record { phase = Walk; phase-is = refl; role = λ n. absurd (n refl); ok = λ n. absurd (n refl) })
+        (record { phase = Walk; phase-is = refl; role = λ n. absurd (n refl); ok = λ n. absurd (n refl) }) i;
     tops = λ x h f. omega (arith, fresh-top, ap (top (freshNodes n)) (zero-is x h));
     locks = λ i l x h6 hx e. absurd (omega (arith, fresh-word x (10 + l) (omega arith) (λ q. omega arith)));
     beyond = λ i h. fresh-slot (λ q. q .call .kind ≡ Idle) refl refl i;
@@ -181,7 +182,7 @@ module _ (nodes versions : List ℕ) (processes limit : ℕ) (law : Lawful nodes
       zero-is x h = omega arith
 
   none-busy : (k : ℕ) → busyBelow (w₀ .state .process) k ≡ 0
-  unfolding busyBelow isIdle
+  unfolding busyBelow
   none-busy zero = refl
   none-busy (suc k) = rw (fresh-slot (λ q. q .call .kind ≡ Idle) refl refl k) (omega (arith, none-busy k))
 

@@ -6,14 +6,15 @@ use mathlib.Core.List.{List, [], _∷_}
 use mathlib.Core.Logic.{_≢_}
 use mathlib.Core.Path.{_≡_, refl, sym, ap, _∙_, subst}
 use native.Mathlib.Omega.{arith}
+use lib.Dec.{T}
 use lib.ListN.{getD}
 use Rattle.linearizability.specs.Types.{Kind, Idle, Put, Get, Busy, Process, Version, Inspecting, Status}
 use Rattle.model.specs.Layout.{Memory, key, newest, top, next, lock, prev}
 use Rattle.model.specs.Map.{Map}
-use Rattle.model.specs.State.{isIdle}
 use Rattle.model.specs.Calls.{Store, standing, statusOf}
 use Rattle.model.specs.Inspection.{idleBelow, inspectPermit, inspectBy, inspectOf}
 use Rattle.model.specs.Soundness.{On, LevelSound, ChainSound, oldest, older, Sound}
+use Rattle.model.specs.Roles.{isIdle, isPut}
 use Rattle.model.proofs.Tests.{by-eq, by-le}
 use Rattle.linearizability.proofs.MapLaws.{no-entry}
 use Rattle.linearizability.proofs.Invariant.{Ghost, In, Chain, Sorted}
@@ -40,10 +41,7 @@ module _ {w : Store} {g : Ghost} {b : Map} (k : Core w g b) (idle : (i : ℕ) �
       go (suc j) e = absurd (k .locks j l x h6 hx e .kind (idle j))
 
   linked-up : (x : ℕ) → x ≤ m .counts .nodes → g .high x ≡ suc (top (m .nodes) x)
-  linked-up x h = k .tops x h (λ i c. idle≢put (sym (idle i) ∙ c .kind))
-    where
-      idle≢put : Idle ≡ Put → ⊥
-      idle≢put e = let z : _≡_ {A = ℕ} 0 1 = cc in omega arith
+  linked-up x h = k .tops x h (λ i c. subst (λ k. T (isPut k)) (idle i) (c .kind))
 
   on-in : (l x : ℕ) → l < 6 → On m l x → In m g l x
   on-in l x h6 o = (
@@ -76,7 +74,7 @@ module _ {w : Store} {g : Ghost} {b : Map} (k : Core w g b) (idle : (i : ℕ) �
           chain-sound m (newest (m .nodes) (suc i)) ((getD b i no-entry) .versions) (k .book .places i h .0) (k .book .chains i h) (k .book .sorted i h)
 
   below-idle : (n : ℕ) → idleBelow (w .state) n ≡ true
-  unfolding idleBelow isIdle
+  unfolding idleBelow
   below-idle zero = refl
   below-idle (suc n) = rw (idle n) (below-idle n)
 
@@ -110,8 +108,8 @@ busy-inspects {w} k i below ne = rw (core-lawful k, some-busy (w .state .process
   where
     by-kind : (kind : Kind) (pr : Process) → standing kind pr ≢ Status.Idle → isIdle kind ≡ false
     by-kind Idle pr h = absurd (h (unfold standing in refl))
-    by-kind Put pr h = unfold isIdle in refl
-    by-kind Get pr h = unfold isIdle in refl
+    by-kind Put pr h = refl
+    by-kind Get pr h = refl
 
     busy : isIdle (slot w i .call .kind) ≡ false
     busy = by-kind (slot w i .call .kind) (slot w i) (λ e. ne (status-is k i below ∙ e))

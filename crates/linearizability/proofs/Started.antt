@@ -8,9 +8,10 @@ use native.Mathlib.Omega.{arith}
 use lib.Dec.{T, eqb, leb, leb→le, nleb→lt}
 use lib.ListN.{length, getD, set, length-set, length-append}
 use lib.Seq.{getD-set-same, getD-set-other}
-use Rattle.linearizability.specs.Types.{Kind, Idle, Put, Get, Walk, Refusal, Call, Process, Permit, Granted, Denied, Starting}
+use Rattle.linearizability.specs.Types.{Idle, Walk, Refusal, Call, Process, Permit, Granted, Denied, Starting}
 use Rattle.model.specs.Layout.{limits}
 use Rattle.model.specs.Numbers.{numberOf}
+use Rattle.model.specs.Roles.{isPut}
 use Rattle.model.specs.State.{noProcess, lawfulKey, withEvent}
 use Rattle.model.specs.Calls.{Store, startPermit, begun, callFor, startBy, startOf}
 use Rattle.model.specs.Requests.{Operation, put, get, keyOf}
@@ -19,7 +20,8 @@ use Rattle.model.specs.ByValue.{withState}
 use Rattle.model.proofs.Laws.{top-at-most}
 use Rattle.model.proofs.Tests.{if-by, and→, by-eq, eq→eqb}
 use Rattle.model.proofs.Words.{filled}
-use Rattle.linearizability.proofs.Invariant.{At, PlacedOf, Fits}
+use Rattle.linearizability.proofs.Invariant.{At, PlacedOf, Puts, fits-at}
+use Rattle.linearizability.proofs.Step.{searches}
 use Rattle.linearizability.proofs.Effects.{Took, nothing, fed, nothing≢took, grows-on, all-map}
 use Rattle.linearizability.proofs.Live.{memory, slot, Core, Hist, LiveFrom, event-hist, done-grow, core-lawful, one-busy, none-busy, busy-set, kept-kind, kind≢idle, idle-free, keptOf, has-injective, pending-same, pending-other, refused-live}
 use Rattle.model.proofs.Seen.{Seen, isDenied, isGranted, sawRefusal, sawStart, seenDue, tickOf, unless}
@@ -106,12 +108,6 @@ module _ {from : List Took} {K W : ℕ} {w : Store} {h : Seen} (l : LiveFrom fro
       let k = l .hist in
       rw (core-lawful (l .core), k .processes-is, k .limit-is, k .ticks, k .track i .same, idle-free (h .pending i)) refl
 
-  begun-fits : (k : Kind) → call .kind ≡ k → k ≢ Idle → PlacedOf (memory w) (l .g) (begun call)
-      → Fits (memory w) (l .g) i (begun call)
-  begun-fits Idle e ne q = absurd (ne refl)
-  begun-fits Get e ne q = record { kind = Get; phase = Walk; kind-is = e; phase-is = refl; ok = (q, (refl, refl)) }
-  begun-fits Put e ne q = record { kind = Put; phase = Walk; kind-is = e; phase-is = refl; ok = (q, (refl, refl)) }
-
   begun-placed : 1 ≤ keyOf op → PlacedOf (memory w) (l .g) (begun call)
   begun-placed low =
       record { top5 = kept-top op (w .state .events + 1); six = refl; spot = head 5 (omega arith); memo = λ j h6. rw (filled {A = ℕ} 6 j 0) (head j h6) }
@@ -136,8 +132,8 @@ module _ {from : List Took} {K W : ℕ} {w : Store} {h : Seen} (l : LiveFrom fro
     there : (j : ℕ) → j ≢ i → getD (set (w .state .process) i (begun call)) j noProcess ≡ slot w j
     there j ne = getD-set-other (w .state .process) i j (begun call) noProcess ne
 
-    idle≢put : slot w i .call .kind ≡ Put → ⊥
-    idle≢put e = let f : Idle ≡ Put = sym resting ∙ e in let z : _≡_ {A = ℕ} 0 1 = cc in omega arith
+    no-put : Puts (slot w i) → ⊥
+    no-put = subst (λ k. T (isPut k) → ⊥) (sym resting) (λ t. t)
 
     start-core : Core (withState w (withEvent (w .state) i (w .state .counts) (begun call))) (l .g) (l .b)
     start-core =
@@ -156,10 +152,10 @@ module _ {from : List Took} {K W : ℕ} {w : Store} {h : Seen} (l : LiveFrom fro
           nodes = k .nodes;
           book = k .book;
           fits = λ j. by-eq j i
-              (λ e. rw (e, here) (begun-fits (call .kind) refl busy (begun-placed (al .key-low))))
+              (λ e. rw (e, here) (fits-at Walk refl (searches (call .kind) busy) (begun-placed (al .key-low), (refl, refl))))
               (λ ne. rw (there j ne) (k .fits j));
           tops = λ x u f. k .tops x u (λ j. by-eq j i
-              (λ e c. idle≢put (subst (λ q. slot w q .call .kind ≡ Put) e (c .kind)))
+              (λ e c. no-put (subst (λ q. Puts (slot w q)) e (c .kind)))
               (λ ne c. f j (rw (there j ne) c)));
           locks = λ j. by-eq j i
               (λ e l x h6 hx q. absurd (k .locks i l x h6 hx (q ∙ ap suc e) .kind resting))

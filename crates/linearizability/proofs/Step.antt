@@ -8,21 +8,28 @@ use mathlib.Core.Bool.{_&&_}
 use lib.Dec.{T, leb, le→leb}
 use lib.ListN.{length, getD, set, length-set}
 use lib.Seq.{getD-set-same, getD-set-other}
-use Rattle.linearizability.specs.Types.{Kind, Idle, Put, Get, Walk, Read, Seek, Lock, New, Found, None, Call, Cursor, Process, Version, Ahead, Unused, Less, Equal, Past, Move, Refuse, Wait, Go, Note, Commit, End}
+use Rattle.linearizability.specs.Types.{Kind, Idle, Put, Get, Walk, Read, Seek, Lock, Searching, Answer, Found, None, Inserted, Miss, Call, Cursor, Process, Version, Ahead, Unused, Less, Equal, Past, Move, Refuse, Wait, Go, Note, Commit, End}
 use Rattle.model.specs.Layout.{Memory, key, newest, top, next, versionAt}
 use Rattle.model.specs.Map.{Map, versionsOf, putIn, answered, getBy, getFrom}
 use Rattle.model.specs.Numbers.{noVersion}
 use Rattle.model.specs.State.{idleProcess}
+use Rattle.model.specs.Roles.{isIdle, isPut, isGet, plays, classOf}
 use Rattle.model.specs.Phases.{Moved, at, ownVersion, usedVersion, maxNodes, maxVersions, ahead, walked, descend, walkBy, walkOf, readOf, seekBy, seekOf}
 use Rattle.model.specs.Calls.{processAfter}
 use Rattle.model.proofs.Tests.{if-by, if-eq, if-lt, by-eq, →and, T-absurd}
 use Rattle.linearizability.proofs.Level.{absent}
 use Rattle.linearizability.proofs.MapLaws.{no-entry, First, versions-none, versions-first}
-use Rattle.linearizability.proofs.Invariant.{Ghost, In, Nodes, Chain, Book, At, Placed, PlacedOf, Clear, ClearOf, Target, FoundAt, FoundOf, StageOf, Unset, Fits, Climbs, Risen}
+use Rattle.linearizability.proofs.Invariant.{Ghost, In, Nodes, Chain, Book, At, Placed, PlacedOf, Clear, ClearOf, Target, FoundAt, FoundOf, StageOf, Unset, Puts, Gets, Fits, fits-at, Climbs, Risen}
 use Rattle.linearizability.proofs.Frame.{Frame, frame-refl}
 use Rattle.linearizability.proofs.Alike.{alike-refl, risen-alike, risen-same}
 
 -- ---- the statement
+
+-- how a call ends: a get at its effect, a put with its effect behind it
+abbrev pub Ending : Process → (tick : ℕ) → Map → Answer → Version → (effect : ℕ) → Type 0
+Ending pr tick b a v e =
+    (Gets pr × (pr .effect .tick ≡ 0) × (e ≡ tick) × (getFrom b (pr .call .key) ≡ record { answer = a; version = v }))
+    ⊎ (Puts pr × (pr .effect .tick ≢ 0) × (e ≡ pr .effect .tick) × (a ≡ pr .effect .answer) × (v ≡ ownVersion (pr .call)))
 
 -- what the move is on the map: b before it, b′ after it
 abbrev pub Does : Memory → Process → (tick : ℕ) → (b b′ : Map) → Move → Type 0
@@ -30,11 +37,9 @@ Does m pr tick b b′ Refuse = ⊥
 Does m pr tick b b′ Wait = b′ ≡ b
 Does m pr tick b b′ (Go c) = (b′ ≡ b) × (c .made ≡ pr .cursor .made)
 Does m pr tick b b′ (Note c) = (b′ ≡ b) × (c .made ≡ pr .cursor .made)
-Does m pr tick b b′ (Commit c a) = (pr .call .kind ≡ Put) × (pr .effect .tick ≡ 0)
+Does m pr tick b b′ (Commit c a) = Puts pr × (pr .effect .tick ≡ 0)
     × (putIn (maxNodes m) (maxVersions m) b (pr .call .key) (ownVersion (pr .call)) ≡ answered b′ a)
-Does m pr tick b b′ (End a v e) = (b′ ≡ b)
-    × (((pr .call .kind ≡ Get) × (pr .effect .tick ≡ 0) × (e ≡ tick) × (getFrom b (pr .call .key) ≡ record { answer = a; version = v }))
-    ⊎ ((pr .call .kind ≡ Put) × (pr .effect .tick ≢ 0) × (e ≡ pr .effect .tick) × (a ≡ pr .effect .answer) × (v ≡ ownVersion (pr .call))))
+Does m pr tick b b′ (End a v e) = (b′ ≡ b) × Ending pr tick b a v e
 
 pub record Good (m : Memory) (g : Ghost) (i : ℕ) (pr : Process) (tick : ℕ) (b : Map) (v : Move) (m′ : Memory) : Type 0 where
   pub node-words : length (m′ .nodes) ≡ length (m .nodes)
@@ -75,21 +80,29 @@ related m l p k =
 pub within-T : {low high n : ℕ} → low ≤ n → n ≤ high → T (leb low n && leb n high)
 within-T {low} {high} {n} a c = →and (leb low n) (leb n high) (le→leb low n a) (le→leb n high c)
 
-new≢none : None ≡ New → ⊥
-new≢none e = let z : _≡_ {A = ℕ} 0 1 = cc in omega arith
-
-get≢put : Get ≡ Put → ⊥
-get≢put e = let z : _≡_ {A = ℕ} 0 1 = cc in omega arith
+miss≢inserted : Miss ≡ Inserted → ⊥
+miss≢inserted e = let z : _≡_ {A = ℕ} 0 1 = cc in omega arith
 
 -- a put without effect, and a get, have no node in hand
 pub no-climb : {pr : Process} → pr .effect .answer ≡ None → (x : ℕ) → ¬ (Climbs pr x)
-no-climb e x k = new≢none (sym e ∙ k .answer)
+no-climb e x k = miss≢inserted (sym (ap classOf e) ∙ k .answer)
 
-pub get-no-climb : {pr : Process} → pr .call .kind ≡ Get → (x : ℕ) → ¬ (Climbs pr x)
-get-no-climb e x k = get≢put (sym e ∙ k .kind)
+pub get-no-put : (k : Kind) → T (isGet k) → T (isPut k) → ⊥
+get-no-put Idle g p = g
+get-no-put Put g p = g
+get-no-put Get g p = p
+
+get-no-climb : {pr : Process} → Gets pr → (x : ℕ) → ¬ (Climbs pr x)
+get-no-climb {pr} e x k = get-no-put (pr .call .kind) e (k .kind)
 
 pub idle-fits : (m : Memory) (g : Ghost) (i : ℕ) → Fits m g i idleProcess
-idle-fits m g i = record { kind = Idle; phase = Walk; kind-is = refl; phase-is = refl; ok = tt }
+idle-fits m g i = record { phase = Walk; phase-is = refl; role = λ n. absurd (n refl); ok = λ n. absurd (n refl) }
+
+-- every call searches
+pub searches : (k : Kind) → k ≢ Idle → T (plays k Searching)
+searches Idle n = n refl
+searches Put n = tt
+searches Get n = tt
 
 module _ (m : Memory) (g : Ghost) (b : Map) (N : Nodes m g) (B : Book m b) where
   pub link-in : {l p k : ℕ} → At m g l p k → next (m .nodes) l p ≢ 0
@@ -189,12 +202,6 @@ module _ (m : Memory) (g : Ghost) (i : ℕ) (pr : Process) (tick : ℕ) (b : Map
         (λ e. rw (getD-set-other (pr .preds) (c .level) j (c .pred) 0 e) (q .memo j h));
   }
 
-  walk-fits : (pr′ : Process) (k : Kind) → k ≢ Idle → pr′ .call .kind ≡ k → pr′ .cursor .phase ≡ Walk → PlacedOf m g pr′
-      → Unset (pr′ .effect) → Fits m g i pr′
-  walk-fits pr′ Idle nn ek ep q u = absurd (nn refl)
-  walk-fits pr′ Get nn ek ep q u = record { kind = Get; phase = Walk; kind-is = ek; phase-is = ep; ok = (q, u) }
-  walk-fits pr′ Put nn ek ep q u = record { kind = Put; phase = Walk; kind-is = ek; phase-is = ep; ok = (q, u) }
-
   lower : PlacedOf m g pr → {l : ℕ} → l ≤ c .level → At m g l (c .pred) (call .key)
   lower q h = record { used = q .spot .used; up = omega (arith, q .spot .up); low = q .spot .low }
 
@@ -207,24 +214,14 @@ module _ (m : Memory) (g : Ghost) (i : ℕ) (pr : Process) (tick : ℕ) (b : Map
       → Good m g i pr tick b (walked k call c tick found) m
   unfolding walked processAfter getFrom getBy
   walked-good Idle found ek nn el q u h = absurd (nn refl)
-  walked-good Put found ek nn el q u h = notes (at c Seek (c .level) (c .pred)) refl (record {
-    kind = Put;
-    phase = Seek;
-    kind-is = ek;
-    phase-is = refl;
-    ok = (noted q (c .level) (c .pred) (q .spot), rw el u);
-  })
+  walked-good Put found ek nn el q u h = notes (at c Seek (c .level) (c .pred)) refl
+      (fits-at Seek refl (rw ek tt) (noted q (c .level) (c .pred) (q .spot), rw el u))
   walked-good Get x ek nn el q u h = if-eq (λ v. Good m g i pr tick b v m) x 0
       (λ e. still (End None noVersion tick) (idle-fits m g i)
-      (refl, inl (ek, u .0, refl, rw (none-at m g b N B (c .pred) (call .key) (rw el at (q .spot)) (rw el at (h .0 e)))))
-      (risen-alike (alike-refl m g) (λ y _ k. absurd (get-no-climb ek y k))))
-      (λ ne. let f = h .1 ne in notes (at c Read (c .level) x) refl (record {
-        kind = Get;
-        phase = Read;
-        kind-is = ek;
-        phase-is = refl;
-        ok = (record { low = el; used = f .used; pos = f .pos; key-is = f .key-is }, u .0);
-      }))
+      (refl, inl (rw ek tt, u .0, refl, rw (none-at m g b N B (c .pred) (call .key) (rw el at (q .spot)) (rw el at (h .0 e)))))
+      (risen-alike (alike-refl m g) (λ y _ k. absurd (get-no-climb (rw ek tt) y k))))
+      (λ ne. let f = h .1 ne in notes (at c Read (c .level) x) refl
+      (fits-at Read refl (rw ek tt) (record { low = el; used = f .used; pos = f .pos; key-is = f .key-is }, u .0)))
 
   descend-good : (found : ℕ) → call .kind ≢ Idle → PlacedOf m g pr → Unset (pr .effect) → Bottom found
       → Good m g i pr tick b (descend call c tick found) m
@@ -232,8 +229,7 @@ module _ (m : Memory) (g : Ghost) (i : ℕ) (pr : Process) (tick : ℕ) (b : Map
   descend-good found nn q u h = if-eq (λ v. Good m g i pr tick b v m) (c .level) 0
       (λ el. walked-good (call .kind) found refl nn el q u h)
       (λ nl. notes (at c Walk (c .level - 1) (c .pred)) refl
-      (walk-fits (processAfter tick pr (Note (at c Walk (c .level - 1) (c .pred)))) (call .kind) nn refl refl
-      (noted q (c .level - 1) (c .pred) (lower q (omega arith))) u))
+      (fits-at Walk refl (searches (call .kind) nn) (noted q (c .level - 1) (c .pred) (lower q (omega arith)), u)))
 
   bottom-of : (y : ℕ) → Related m (c .level) (c .pred) (call .key) (Equal y) → Bottom y
   bottom-of y r = (
@@ -252,8 +248,8 @@ module _ (m : Memory) (g : Ghost) (i : ℕ) (pr : Process) (tick : ℕ) (b : Map
   unfolding walkBy processAfter
   walk-by-good Unused r nn q u = absurd (not-unused m g b N B (q .spot) r)
   walk-by-good (Less y) r nn q u = goes (at c Walk (c .level) y) refl
-      (walk-fits (processAfter tick pr (Go (at c Walk (c .level) y))) (call .kind) nn refl refl
-      (record { top5 = q .top5; six = q .six; spot = along m g b N B (q .spot) r; memo = q .memo }) u)
+      (fits-at Walk refl (searches (call .kind) nn)
+      (record { top5 = q .top5; six = q .six; spot = along m g b N B (q .spot) r; memo = q .memo }, u))
   walk-by-good (Equal y) r nn q u = descend-good y nn q u (bottom-of y r)
   walk-by-good Past r nn q u = descend-good 0 nn q u (λ e. r, λ ne. absurd (ne refl))
 
@@ -261,34 +257,27 @@ module _ (m : Memory) (g : Ghost) (i : ℕ) (pr : Process) (tick : ℕ) (b : Map
   unfolding walkOf
   walk-good nn q u = walk-by-good (ahead m (c .level) (c .pred) (call .key)) (related m (c .level) (c .pred) (call .key)) nn q u
 
-  pub read-good : call .kind ≡ Get → FoundOf m pr → pr .effect .tick ≡ 0 → Good m g i pr tick b (readOf call c tick m) m
+  pub read-good : Gets pr → FoundOf m pr → pr .effect .tick ≡ 0 → Good m g i pr tick b (readOf call c tick m) m
   unfolding readOf processAfter
-  read-good ek f e0 =
+  read-good w f e0 =
       let x = newest (m .nodes) (c .pred) in
       let q = place-in m g b N B (c .pred) (f .pos) (f .used) in
       if-by (λ v. Good m g i pr tick b v m) (usedVersion m x)
       (λ t. still (End Found (versionAt (m .versions) x) tick) (idle-fits m g i)
-      (refl, inl (ek, e0, refl, get-at-node m g b N B (c .pred) (call .key) (f .pos) (f .used) (f .key-is)))
-      (risen-alike (alike-refl m g) (λ y _ k. absurd (get-no-climb ek y k))))
+      (refl, inl (w, e0, refl, get-at-node m g b N B (c .pred) (call .key) (f .pos) (f .used) (f .key-is)))
+      (risen-alike (alike-refl m g) (λ y _ k. absurd (get-no-climb w y k))))
       (λ t. absurd (T-absurd (usedVersion m x) (within-T (q .0) (q .1)) t))
 
-  seek-by-good : (a : Ahead) → Related m (c .level) (c .pred) (call .key) a → call .kind ≡ Put → PlacedOf m g pr
+  seek-by-good : (a : Ahead) → Related m (c .level) (c .pred) (call .key) a → Puts pr → PlacedOf m g pr
       → StageOf m g i pr
       → Good m g i pr tick b (seekBy c a) m
   unfolding seekBy processAfter
-  seek-by-good Unused r ek q s = absurd (not-unused m g b N B (q .spot) r)
-  seek-by-good (Less y) r ek q s = goes (at c Seek (c .level) y) refl (record {
-    kind = Put;
-    phase = Seek;
-    kind-is = ek;
-    phase-is = refl;
-    ok = (record { top5 = q .top5; six = q .six; spot = along m g b N B (q .spot) r; memo = q .memo }, s);
-  })
-  seek-by-good (Equal y) r ek q s =
-      goes (at c Lock (c .level) (c .pred)) refl (record { kind = Put; phase = Lock; kind-is = ek; phase-is = refl; ok = (q, s) })
-  seek-by-good Past r ek q s =
-      goes (at c Lock (c .level) (c .pred)) refl (record { kind = Put; phase = Lock; kind-is = ek; phase-is = refl; ok = (q, s) })
+  seek-by-good Unused r w q s = absurd (not-unused m g b N B (q .spot) r)
+  seek-by-good (Less y) r w q s = goes (at c Seek (c .level) y) refl
+      (fits-at Seek refl w (record { top5 = q .top5; six = q .six; spot = along m g b N B (q .spot) r; memo = q .memo }, s))
+  seek-by-good (Equal y) r w q s = goes (at c Lock (c .level) (c .pred)) refl (fits-at Lock refl w (q, s))
+  seek-by-good Past r w q s = goes (at c Lock (c .level) (c .pred)) refl (fits-at Lock refl w (q, s))
 
-  pub seek-good : call .kind ≡ Put → PlacedOf m g pr → StageOf m g i pr → Good m g i pr tick b (seekOf call c m) m
+  pub seek-good : Puts pr → PlacedOf m g pr → StageOf m g i pr → Good m g i pr tick b (seekOf call c m) m
   unfolding seekOf
-  seek-good ek q s = seek-by-good (ahead m (c .level) (c .pred) (call .key)) (related m (c .level) (c .pred) (call .key)) ek q s
+  seek-good w q s = seek-by-good (ahead m (c .level) (c .pred) (call .key)) (related m (c .level) (c .pred) (call .key)) w q s

@@ -9,23 +9,24 @@ use native.Mathlib.Omega.{arith}
 use lib.Dec.{T, eqb, ltb, leb, nleb→lt}
 use lib.ListN.{length, getD, set, length-set, length-append}
 use lib.Seq.{getD-set-same, getD-set-other}
-use Rattle.linearizability.specs.Types.{Idle, Put, Get, Answer, Call, Cursor, Process, Version, Permit, Granted, Denied, Move, Refuse, Wait, Go, Note, Commit, End}
+use Rattle.linearizability.specs.Types.{Idle, Answer, Call, Cursor, Process, Version, Permit, Granted, Denied, Move, Refuse, Wait, Go, Note, Commit, End}
 use Rattle.model.specs.Choice.{if_then_else_}
 use Rattle.model.specs.Layout.{Memory, limits}
 use Rattle.model.specs.Map.{Map, putIn, PutResult, Reply, getFrom, applied, Applied}
 use Rattle.model.specs.Map as Seq
 use Rattle.model.specs.Numbers.{placeOf}
+use Rattle.model.specs.Roles.{isPut, isGet}
 use Rattle.model.specs.State.{idleProcess, noProcess, withEvent}
 use Rattle.model.specs.Phases.{Moved, moved, ownVersion, turnOf}
 use Rattle.model.specs.Calls.{callFor, Store, stepPermit, processAfter, outcomeOf, counted, tallyAfter, evented, storeAfter, stepBy, stepOf}
 use Rattle.model.specs.Requests.{Operation, put, get, kindOf}
 use Rattle.model.specs.History.{Action, step, Invoked, Pending, no-call, has-call, pendingAt, isFree, due, Completed, finished}
 use Rattle.model.specs.Linearizability.{countedAt}
-use Rattle.model.proofs.Laws.{place-below}
+use Rattle.model.proofs.Laws.{place-below, length-tally}
 use Rattle.model.proofs.Tests.{if-by, if-lt, if-eq, by-eq, is-true, eq→eqb}
-use Rattle.linearizability.proofs.Invariant.{Climbs}
+use Rattle.linearizability.proofs.Invariant.{Puts, Gets, Climbs}
 use Rattle.linearizability.proofs.Frame.{fits-kept}
-use Rattle.linearizability.proofs.Step.{Does, Good}
+use Rattle.linearizability.proofs.Step.{Ending, Does, Good}
 use Rattle.linearizability.proofs.Turn.{turn-good}
 use Rattle.linearizability.proofs.Locks.{Locked, step-locked}
 use Rattle.linearizability.proofs.Effects.{Took, nothing, took, fed, played, nothing≢took, grows-on, Entered, entered-grow, entered-now}
@@ -34,16 +35,6 @@ use Rattle.linearizability.proofs.Started.{due-denied, no-fault, grante
 use Rattle.model.proofs.Seen.{Seen, isGranted, sawStep, seenDue, tickOf, unless}
 
 -- ---- the tally
-
-length-tally : (t : List ℕ) (v : Move) → length (tallyAfter t v) ≡ length t
-unfolding tallyAfter counted
-length-tally t Refuse = refl
-length-tally t Wait = refl
-length-tally t (Go c) = refl
-length-tally t (Note c) = refl
-length-tally t (Commit c a) = refl
-length-tally t (End a v e) = if-by (λ (u : List ℕ). length u ≡ length t) (ltb (getD t (placeOf a) 0) (limits .count))
-    (λ h. length-set t (placeOf a) (getD t (placeOf a) 0 + 1)) (λ h. refl)
 
 answered-few : (a : Answer) (l : List Completed) → countedAt (placeOf a) l ≤ length l
 unfolding countedAt
@@ -68,18 +59,18 @@ tally-counts t ds d a l7 few e e′ =
 -- ---- what the map makes of the call that a process keeps
 
 pub put-applied : (K W : ℕ) (b b′ : Map) (op : Operation) (n : ℕ) (a : Answer) → let call = callFor op n in
-    call .kind ≡ Put → putIn K W b (call .key) (ownVersion call) ≡ Seq.answered b′ a
+    T (isPut (call .kind)) → putIn K W b (call .key) (ownVersion call) ≡ Seq.answered b′ a
     → applied K W b op ≡ record { map = b′; reply = record { answer = a; version = ownVersion call } }
 unfolding callFor applied
-put-applied K W b b′ (put k v t draw) n a ek e =
+put-applied K W b b′ (put k v t draw) n a is e =
     ap (λ (r : PutResult). record { map = r .map; reply = record { answer = r .answer; version = record { value = v; timestamp = t } } }) e
-put-applied K W b b′ (get k) n a ek e = let z : _≡_ {A = ℕ} 0 1 = cc in absurd (omega arith)
+put-applied K W b b′ (get k) n a is e = absurd is
 
 get-applied : (K W : ℕ) (b : Map) (op : Operation) (n : ℕ) (r : Reply) → let call = callFor op n in
-    call .kind ≡ Get → getFrom b (call .key) ≡ r → applied K W b op ≡ record { map = b; reply = r }
+    T (isGet (call .kind)) → getFrom b (call .key) ≡ r → applied K W b op ≡ record { map = b; reply = r }
 unfolding callFor applied
-get-applied K W b (put k v t draw) n r ek e = let z : _≡_ {A = ℕ} 0 1 = cc in absurd (omega arith)
-get-applied K W b (get k) n r ek e = ap (λ (z : Reply). record { map = b; reply = z }) e
+get-applied K W b (put k v t draw) n r is e = absurd is
+get-applied K W b (get k) n r is e = ap (λ (z : Reply). record { map = b; reply = z }) e
 
 -- ---- what a step needs: an event is due
 
@@ -163,15 +154,15 @@ module _ {from : List Took} {K W : ℕ} {w : Store} {h : Seen} (l : LiveFrom fro
   begun = omega (arith, l .hist .track i .begun, start-is)
 
   -- the map that memory holds makes of the call what the effects' map makes of it
-  puts : (b′ : Map) (a : Answer) → pr .call .kind ≡ Put → putIn K W (l .b) (pr .call .key) (ownVersion (pr .call)) ≡ Seq.answered b′ a
+  puts : (b′ : Map) (a : Answer) → Puts pr → putIn K W (l .b) (pr .call .key) (ownVersion (pr .call)) ≡ Seq.answered b′ a
       → applied K W (l .b) (c₀ .operation) ≡ record { map = b′; reply = record { answer = a; version = ownVersion (pr .call) } }
-  puts b′ a = subst (λ (c : Call). c .kind ≡ Put → putIn K W (l .b) (c .key) (ownVersion c) ≡ Seq.answered b′ a
+  puts b′ a = subst (λ (c : Call). T (isPut (c .kind)) → putIn K W (l .b) (c .key) (ownVersion c) ≡ Seq.answered b′ a
       → applied K W (l .b) (c₀ .operation) ≡ record { map = b′; reply = record { answer = a; version = ownVersion c } }) (sym same)
       (put-applied K W (l .b) b′ (c₀ .operation) (c₀ .start) a)
 
-  gets : (r : Reply) → pr .call .kind ≡ Get → getFrom (l .b) (pr .call .key) ≡ r
+  gets : (r : Reply) → Gets pr → getFrom (l .b) (pr .call .key) ≡ r
       → applied K W (l .b) (c₀ .operation) ≡ record { map = l .b; reply = r }
-  gets r = subst (λ (c : Call). c .kind ≡ Get → getFrom (l .b) (c .key) ≡ r
+  gets r = subst (λ (c : Call). T (isGet (c .kind)) → getFrom (l .b) (c .key) ≡ r
       → applied K W (l .b) (c₀ .operation) ≡ record { map = l .b; reply = r }) (sym same)
       (get-applied K W (l .b) (c₀ .operation) (c₀ .start) r)
 
@@ -415,8 +406,7 @@ module _ {from : List Took} {K W : ℕ} {w : Store} {h : Seen} (l : LiveFrom fro
   -- a get, or a put whose effect is behind it
   end-live : (m : Memory) (a : Answer) (v : Version) (e : ℕ) (G : Good (memory w) (l .g) i pr tick (l .b) (End a v e) m)
       → Locked (memory w) i tick pr (moved m (End a v e))
-      → ((pr .call .kind ≡ Get) × (pr .effect .tick ≡ 0) × (e ≡ tick) × (getFrom (l .b) (pr .call .key) ≡ record { answer = a; version = v }))
-      ⊎ ((pr .call .kind ≡ Put) × (pr .effect .tick ≢ 0) × (e ≡ pr .effect .tick) × (a ≡ pr .effect .answer) × (v ≡ ownVersion (pr .call)))
+      → Ending pr tick (l .b) a v e
       → LiveFrom from K W (evented w i (End a v e) m) (after-end a v e)
   unfolding fed
   end-live m a v e G lk (inl d) = record {
@@ -493,8 +483,8 @@ module _ {from : List Took} {K W : ℕ} {w : Store} {h : Seen} (l : LiveFrom fro
       (step-locked (memory w) i tick pr (k .nodes .size) (k .nodes .room) (k .locks i) (basic .0) (basic .1) busy)
     where
       basic : (pr .cursor .level < 6) × (pr .cursor .pred ≤ w .state .counts .nodes)
-      basic = let f = l .core .fits i in
-          Rattle.linearizability.proofs.Turn.basic (memory w) (l .g) i pr tick (l .b) (l .core .nodes) (l .core .book) (f .kind) (f .phase) (λ e. busy (f .kind-is ∙ e)) (f .ok)
+      basic =
+          Rattle.linearizability.proofs.Turn.basic (memory w) (l .g) i pr tick (l .b) (l .core .nodes) (l .core .book) (l .core .fits i) busy
 
 -- ---- any step
 

@@ -8,7 +8,7 @@ use lib.Dec.{T, eqb, ltb, leb, leb→le}
 use Rattle.linearizability.specs.Types.{Phase, Walk, Read, Seek, Lock, Check, Update, Make, Link, Release, Call, Cursor, Process, Ahead, Unused, Less, Equal, Past, Move, Refuse, Wait, Go, Note, Commit, End, Permit, Granted, Denied}
 use Rattle.model.specs.Layout.{Memory, topLevel, word, field, newest, next, lock, timestamp, withNext, withNode}
 use Rattle.model.specs.State.{processAt, memoryOf}
-use Rattle.model.specs.Phases.{Moved, moved, ownVersion, usedNode, usedVersion, maxNodes, maxVersions, withHolder, lockOf, checkBy, checkOf, addVersion, updateNode, updateAt, updateOf, addNode, makeOf, addLink, linkOf, freed, releaseOf, lawfulProcess, phaseOf, turnOf, released, aheadOf}
+use Rattle.model.specs.Phases.{Moved, moved, refuses, ownVersion, usedNode, usedVersion, maxNodes, maxVersions, withHolder, lockOf, checkBy, checkOf, addVersion, updateNode, updateAt, updateOf, addNode, makeOf, addLink, linkOf, freed, releaseOf, lawfulProcess, phaseOf, turnOf, released, aheadOf}
 use Rattle.model.specs.Calls.{Store, stepPermit, stepBy, stepOf}
 use Rattle.model.specs.Touched.{MayWriteNode, MayWriteVersion}
 use Rattle.model.proofs.Tests.{if-by, and→}
@@ -45,12 +45,8 @@ module _ (c : Cursor) (m : Memory) (low : c .level ≤ 5) where
 
   release-spares : (v : Move) → Of Release (freed c m v)
   unfolding freed
-  release-spares Refuse = untouched Release c m
-  release-spares Wait = record { nodes = one-lock 0; versions = λ i f h n. refl }
-  release-spares (Go d) = record { nodes = one-lock 0; versions = λ i f h n. refl }
-  release-spares (Note d) = record { nodes = one-lock 0; versions = λ i f h n. refl }
-  release-spares (Commit d a) = record { nodes = one-lock 0; versions = λ i f h n. refl }
-  release-spares (End a v t) = record { nodes = one-lock 0; versions = λ i f h n. refl }
+  release-spares v = if-by (Spares Release c m) (refuses v)
+      (λ t. untouched Release c m) (λ t. record { nodes = one-lock 0; versions = λ i f h n. refl })
 
   update-spares : (call : Call) → Of Update (updateOf call c m)
   unfolding updateOf updateAt updateNode addVersion

@@ -1,14 +1,15 @@
 -- Any step of a process in order is good: the tests of every step pass, and each phase keeps the invariant.
 use Prim.Native.Nat.{ℕ, zero, suc, _+_, _≤_, _<_}
-use mathlib.Core.Bool.{Bool, true, false, _||_}
+use mathlib.Core.Bool.{Bool, true, false, _&&_, _||_}
 use mathlib.Core.Logic.{_≢_}
-use mathlib.Core.Path.{_≡_, refl, sym, _∙_, subst}
+use mathlib.Core.Path.{_≡_, sym, subst}
 use native.Mathlib.Omega.{arith}
 use lib.Dec.{T, eqb, leb, le→leb}
-use Rattle.linearizability.specs.Types.{Kind, Idle, Put, Get, Phase, Walk, Read, Seek, Lock, Check, Update, Make, Link, Release, Answer, TooOld, VersionsFull, Added, KeysFull, New, Found, None, Process}
+use Rattle.linearizability.specs.Types.{Kind, Idle, Put, Get, Phase, Walk, Read, Seek, Lock, Check, Update, Make, Link, Release, Role, Searching, Class, Inserted, OtherPut, Hit, Miss, None, Process}
 use Rattle.model.specs.Layout.{Memory, topLevel}
 use Rattle.model.specs.Map.{Map}
-use Rattle.model.specs.Phases.{fromPut, noEffect, lawfulAt, lawfulProcess, phaseOf, turnOf}
+use Rattle.model.specs.Phases.{noEffect, lawfulEffect, lawfulAt, lawfulProcess, phaseOf, turnOf}
+use Rattle.model.specs.Roles.{isPut, roleOf, plays, putClass, classOf, fromPut}
 use Rattle.model.proofs.Tests.{if-by, is-true, T-absurd, eq→eqb}
 use Rattle.linearizability.proofs.Invariant.{Ghost, Nodes, Book, At, Stage, StageOf, Settled, Ok, Fits}
 use Rattle.linearizability.proofs.Step.{Result, walk-good, read-good, seek-good}
@@ -16,12 +17,6 @@ use Rattle.linearizability.proofs.Locking.{lock-good, check-good, relea
 use Rattle.linearizability.proofs.Update.{update-good}
 use Rattle.linearizability.proofs.Make.{make-good}
 use Rattle.linearizability.proofs.Link.{link-good}
-
-get≢idle : Get ≢ Idle
-get≢idle e = let z : _≡_ {A = ℕ} 0 1 = cc in omega arith
-
-put≢idle : Put ≢ Idle
-put≢idle e = let z : _≡_ {A = ℕ} 0 1 = cc in omega arith
 
 module _ (m : Memory) (g : Ghost) (i : ℕ) (pr : Process) (tick : ℕ) (b : Map) (N : Nodes m g) (B : Book m b) where
   -- ---- the tests of every step
@@ -32,37 +27,26 @@ module _ (m : Memory) (g : Ghost) (i : ℕ) (pr : Process) (tick : ℕ) (b : Map
   at-basic : At m g (pr .cursor .level) (pr .cursor .pred) (pr .call .key) → Basic
   at-basic a = (omega (arith, a .up, N .high (pr .cursor .pred) (a .used)), a .used)
 
-  pub basic : (k : Kind) (ph : Phase) → k ≢ Idle → Ok m g i pr k ph → Basic
-  basic Idle ph nn c = absurd (nn refl)
-  basic Get Walk nn c = at-basic (c .0 .spot)
-  basic Get Read nn c = (omega (arith, c .0 .low), c .0 .used)
-  basic Get Seek nn c = absurd c
-  basic Get Lock nn c = absurd c
-  basic Get Check nn c = absurd c
-  basic Get Update nn c = absurd c
-  basic Get Make nn c = absurd c
-  basic Get Link nn c = absurd c
-  basic Get Release nn c = absurd c
-  basic Put Walk nn c = at-basic (c .0 .spot)
-  basic Put Read nn c = absurd c
-  basic Put Seek nn c = at-basic (c .0 .spot)
-  basic Put Lock nn c = at-basic (c .0 .spot)
-  basic Put Check nn c = at-basic (c .0 .spot)
-  basic Put Update nn c = at-basic (c .0 .spot)
-  basic Put Make nn c = at-basic (c .0 .spot)
-  basic Put Link nn c = at-basic (c .0 .spot)
-  basic Put Release nn c = at-basic (c .0 .spot)
+  ok-basic : (ph : Phase) → Ok m g i pr ph → Basic
+  ok-basic Walk c = at-basic (c .0 .spot)
+  ok-basic Read c = (omega (arith, c .0 .low), c .0 .used)
+  ok-basic Seek c = at-basic (c .0 .spot)
+  ok-basic Lock c = at-basic (c .0 .spot)
+  ok-basic Check c = at-basic (c .0 .spot)
+  ok-basic Update c = at-basic (c .0 .spot)
+  ok-basic Make c = at-basic (c .0 .spot)
+  ok-basic Link c = at-basic (c .0 .spot)
+  ok-basic Release c = at-basic (c .0 .spot)
 
-  settled-right : (a : Answer) → Settled m g i (pr .call .top) (pr .cursor .made) (pr .call .key) (pr .cursor .level) a
-      → T (fromPut a)
-  unfolding fromPut
-  settled-right TooOld c = tt
-  settled-right VersionsFull c = tt
-  settled-right Added c = tt
-  settled-right KeysFull c = tt
-  settled-right New c = tt
-  settled-right Found c = c
-  settled-right None c = c
+  pub basic : Fits m g i pr → pr .call .kind ≢ Idle → Basic
+  basic f nn = ok-basic (f .phase) (f .ok nn)
+
+  settled-right : (a : Class) → Settled m g i (pr .call .top) (pr .cursor .made) (pr .call .key) (pr .cursor .level) a
+      → T (putClass a)
+  settled-right Inserted c = tt
+  settled-right OtherPut c = tt
+  settled-right Hit c = c
+  settled-right Miss c = c
 
   or-left : (a c : Bool) → T a → T (a || c)
   or-left true c t = tt
@@ -72,48 +56,36 @@ module _ (m : Memory) (g : Ghost) (i : ℕ) (pr : Process) (tick : ℕ) (b : Map
   or-right true c t = tt
   or-right false c t = t
 
-  -- no effect yet, or an answer that a put gives
-  unset-right : pr .effect .tick ≡ 0 → T (noEffect (pr .effect) || fromPut (pr .effect .answer))
-  unset-right e = or-left (noEffect (pr .effect)) (fromPut (pr .effect .answer)) (eq→eqb (pr .effect .tick) 0 e)
+  unset-right : (c : Bool) → pr .effect .tick ≡ 0 → T (noEffect (pr .effect) || c)
+  unset-right c e = or-left (noEffect (pr .effect)) c (eq→eqb (pr .effect .tick) 0 e)
 
+  -- no effect yet, or an answer that a put gives
   stage-right : (l : ℕ) → Stage m g i (pr .effect) (pr .call .top) (pr .cursor .made) (pr .call .key) l
       → T (noEffect (pr .effect) || fromPut (pr .effect .answer))
-  stage-right zero c = unset-right (c .0)
-  stage-right (suc l) c = or-right (noEffect (pr .effect)) (fromPut (pr .effect .answer)) (unfold fromPut in (rw (c .1) tt))
+  stage-right zero c = unset-right (fromPut (pr .effect .answer)) (c .0)
+  stage-right (suc l) c = or-right (noEffect (pr .effect)) (fromPut (pr .effect .answer)) (rw (c .1) tt)
 
-  at-right : (k : Kind) (ph : Phase) → k ≢ Idle → Ok m g i pr k ph → T (lawfulAt k ph (pr .effect))
-  unfolding lawfulAt
-  at-right Idle ph nn c = absurd (nn refl)
-  at-right Get Walk nn c = eq→eqb (pr .effect .tick) 0 (c .1 .0)
-  at-right Get Read nn c = eq→eqb (pr .effect .tick) 0 (c .1)
-  at-right Get Seek nn c = c
-  at-right Get Lock nn c = c
-  at-right Get Check nn c = c
-  at-right Get Update nn c = c
-  at-right Get Make nn c = c
-  at-right Get Link nn c = c
-  at-right Get Release nn c = c
-  at-right Put Walk nn c = unset-right (c .1 .0)
-  at-right Put Read nn c = c
-  at-right Put Seek nn c = stage-right (pr .cursor .level) (c .1)
-  at-right Put Lock nn c = stage-right (pr .cursor .level) (c .1)
-  at-right Put Check nn c = stage-right (pr .cursor .level) (c .1)
-  at-right Put Update nn c = stage-right (pr .cursor .level) (c .1)
-  at-right Put Make nn c = stage-right (pr .cursor .level) (c .1)
-  at-right Put Link nn c = stage-right (pr .cursor .level) (c .1)
-  at-right Put Release nn c = settled-right (pr .effect .answer) (c .3)
+  effect-right : (ph : Phase) → Ok m g i pr ph → T (lawfulEffect (pr .call .kind) (roleOf ph) (pr .effect))
+  effect-right Walk c = unset-right (isPut (pr .call .kind) && fromPut (pr .effect .answer)) (c .1 .0)
+  effect-right Read c = eq→eqb (pr .effect .tick) 0 (c .1)
+  effect-right Seek c = stage-right (pr .cursor .level) (c .1)
+  effect-right Lock c = stage-right (pr .cursor .level) (c .1)
+  effect-right Check c = stage-right (pr .cursor .level) (c .1)
+  effect-right Update c = stage-right (pr .cursor .level) (c .1)
+  effect-right Make c = stage-right (pr .cursor .level) (c .1)
+  effect-right Link c = stage-right (pr .cursor .level) (c .1)
+  effect-right Release c = settled-right (classOf (pr .effect .answer)) (c .3)
 
-  lawful : (k : Kind) (ph : Phase) → k ≢ Idle → pr .call .kind ≡ k → pr .cursor .phase ≡ ph → Ok m g i pr k ph
-      → T (lawfulProcess pr m)
-  unfolding lawfulProcess
-  lawful k ph nn ek ep c =
-      let q = basic k ph nn c in
+  lawful : Fits m g i pr → pr .call .kind ≢ Idle → T (lawfulProcess pr m)
+  unfolding lawfulProcess lawfulAt
+  lawful f nn =
+      let q = basic f nn in
       rw (
         is-true (leb (pr .cursor .level) topLevel) (le→leb (pr .cursor .level) topLevel (omega arith)),
         is-true (leb (pr .cursor .pred) (m .counts .nodes)) (le→leb (pr .cursor .pred) (m .counts .nodes) (q .1)),
-        ek,
-        ep,
-        is-true (lawfulAt k ph (pr .effect)) (at-right k ph nn c),
+        f .phase-is,
+        is-true (plays (pr .call .kind) (roleOf (f .phase))) (f .role nn),
+        is-true (lawfulEffect (pr .call .kind) (roleOf (f .phase)) (pr .effect)) (effect-right (f .phase) (f .ok nn)),
       ) tt
 
   -- ---- the phase
@@ -122,36 +94,25 @@ module _ (m : Memory) (g : Ghost) (i : ℕ) (pr : Process) (tick : ℕ) (b : Map
   stage₀ : pr .cursor .level ≡ 0 → StageOf m g i pr → (pr .effect .tick ≡ 0) × (pr .effect .answer ≡ None)
   stage₀ el c = subst (λ l. Stage m g i (pr .effect) (pr .call .top) (pr .cursor .made) (pr .call .key) l) el c
 
-  phase-good : (k : Kind) (ph : Phase) → tick ≢ 0 → pr .call .kind ≡ k → pr .cursor .phase ≡ ph → k ≢ Idle → Ok m g i pr k ph
+  phase-good : (ph : Phase) → tick ≢ 0 → pr .cursor .phase ≡ ph → pr .call .kind ≢ Idle
+      → T (plays (pr .call .kind) (roleOf ph)) → Ok m g i pr ph
       → Result m g i pr tick b (phaseOf ph (i + 1) tick pr m)
   unfolding phaseOf
-  phase-good Idle ph tp ek ep nn c = absurd (nn refl)
-  phase-good Get Walk tp ek ep nn c = walk-good m g i pr tick b N B (λ e. nn (sym ek ∙ e)) (c .0) (c .1)
-  phase-good Get Read tp ek ep nn c = read-good m g i pr tick b N B ek (c .0) (c .1)
-  phase-good Get Seek tp ek ep nn c = absurd c
-  phase-good Get Lock tp ek ep nn c = absurd c
-  phase-good Get Check tp ek ep nn c = absurd c
-  phase-good Get Update tp ek ep nn c = absurd c
-  phase-good Get Make tp ek ep nn c = absurd c
-  phase-good Get Link tp ek ep nn c = absurd c
-  phase-good Get Release tp ek ep nn c = absurd c
-  phase-good Put Walk tp ek ep nn c = walk-good m g i pr tick b N B (λ e. nn (sym ek ∙ e)) (c .0) (c .1)
-  phase-good Put Read tp ek ep nn c = absurd c
-  phase-good Put Seek tp ek ep nn c = seek-good m g i pr tick b N B ek (c .0) (c .1)
-  phase-good Put Lock tp ek ep nn c = lock-good m g i pr tick b N B ek ep (c .0) (c .1)
-  phase-good Put Check tp ek ep nn c = check-good m g i pr tick b N B ek (c .0) (c .1) (c .2)
-  phase-good Put Update tp ek ep nn c =
-      let u = stage₀ (c .3) (c .1) in update-good m g i pr tick b N B tp ek (u .0) (u .1) (c .0) (c .2) (c .3) (c .4)
-  phase-good Put Make tp ek ep nn c =
-      let u = stage₀ (c .3) (c .1) in make-good m g i pr tick b N B tp ek (u .0) (u .1) (c .0) (c .2) (c .3) (c .4)
-  phase-good Put Link tp ek ep nn c = link-good m g i pr tick b N B ek (c .0) (c .2) (c .4) (c .3) (c .1)
-  phase-good Put Release tp ek ep nn c = release-good m g i pr tick b N B ek (c .1) (c .0) (c .2) (c .3)
+  phase-good Walk tp ep nn w c = walk-good m g i pr tick b N B nn (c .0) (c .1)
+  phase-good Read tp ep nn w c = read-good m g i pr tick b N B w (c .0) (c .1)
+  phase-good Seek tp ep nn w c = seek-good m g i pr tick b N B w (c .0) (c .1)
+  phase-good Lock tp ep nn w c = lock-good m g i pr tick b N B w ep (c .0) (c .1)
+  phase-good Check tp ep nn w c = check-good m g i pr tick b N B w (c .0) (c .1) (c .2)
+  phase-good Update tp ep nn w c =
+      let u = stage₀ (c .3) (c .1) in update-good m g i pr tick b N B tp w (u .0) (u .1) (c .0) (c .2) (c .3) (c .4)
+  phase-good Make tp ep nn w c =
+      let u = stage₀ (c .3) (c .1) in make-good m g i pr tick b N B tp w (u .0) (u .1) (c .0) (c .2) (c .3) (c .4)
+  phase-good Link tp ep nn w c = link-good m g i pr tick b N B w (c .0) (c .2) (c .4) (c .3) (c .1)
+  phase-good Release tp ep nn w c = release-good m g i pr tick b N B w (c .1) (c .0) (c .2) (c .3)
 
   pub turn-good : tick ≢ 0 → Fits m g i pr → pr .call .kind ≢ Idle → Result m g i pr tick b (turnOf (i + 1) tick pr m)
   unfolding turnOf
-  turn-good tp f ni =
-      let nn : f .kind ≢ Idle = λ e. ni (f .kind-is ∙ e) in
-      if-by (Result m g i pr tick b) (lawfulProcess pr m)
+  turn-good tp f nn = if-by (Result m g i pr tick b) (lawfulProcess pr m)
       (λ t. subst (λ ph. Result m g i pr tick b (phaseOf ph (i + 1) tick pr m)) (sym (f .phase-is))
-      (phase-good (f .kind) (f .phase) tp (f .kind-is) (f .phase-is) nn (f .ok)))
-      (λ t. absurd (T-absurd (lawfulProcess pr m) (lawful (f .kind) (f .phase) nn (f .kind-is) (f .phase-is) (f .ok)) t))
+      (phase-good (f .phase) tp (f .phase-is) nn (f .role nn) (f .ok nn)))
+      (λ t. absurd (T-absurd (lawfulProcess pr m) (lawful f nn) t))

@@ -8,16 +8,17 @@ use native.Mathlib.Omega.{arith}
 use lib.Dec.{ltb, leb}
 use lib.ListN.{length, getD, set, length-set}
 use lib.Seq.{getD-set-same, getD-set-other}
-use Rattle.linearizability.specs.Types.{Put, Release, Answer, TooOld, VersionsFull, Added, None, Call, Cursor, Process, Version}
+use Rattle.linearizability.specs.Types.{Release, Answer, TooOld, VersionsFull, Added, None, Call, Cursor, Process, Version}
 use Rattle.model.specs.Choice.{if_then_else_}
 use Rattle.model.specs.Layout.{Memory, versionWords, capacity, word, field, key, newest, top, next, timestamp, withNewest, withVersion}
 use Rattle.model.specs.Map.{Map, held, pushed, answered, putBy, putIn}
 use Rattle.model.specs.Phases.{ownVersion, usedNode, usedVersion, maxNodes, maxVersions, committed, addVersion, updateNode, updateAt, updateOf}
 use Rattle.model.specs.Calls.{processAfter}
+use Rattle.model.specs.Roles.{classOf}
 use Rattle.model.proofs.Tests.{if-by, if-yes, if-no, by-eq, T-absurd}
 use Rattle.model.proofs.Words.{same-key, length-word, word-same, word-field, word-node, length-version, version-in, version-out}
 use Rattle.linearizability.proofs.MapLaws.{no-entry, First, versions-first, pushed-first, held-set, with-front}
-use Rattle.linearizability.proofs.Invariant.{Ghost, In, Nodes, Chain, Below, Book, PlacedOf, Target, TargetOf, HoldsOf, Settled}
+use Rattle.linearizability.proofs.Invariant.{Ghost, In, Nodes, Chain, Below, Book, PlacedOf, Target, TargetOf, HoldsOf, Settled, Puts, fits-at}
 use Rattle.linearizability.proofs.Frame.{Frame, placed-kept, held-kept}
 use Rattle.linearizability.proofs.Alike.{Alike, nodes-kept, frame-alike, risen-alike, alike-refl}
 use Rattle.linearizability.proofs.Step.{Good, Result, still, first-at, no-climb, within-T}
@@ -148,7 +149,7 @@ module _ (m : Memory) (g : Ghost) (call : Call) (b : Map) (N : Nodes m g) (B : B
         }
 
 module _ (m : Memory) (g : Ghost) (s : ℕ) (pr : Process) (tick : ℕ) (b : Map) (N : Nodes m g) (B : Book m b) (tick-pos : tick ≢ 0)
-    (ek : pr .call .kind ≡ Put) (unset : pr .effect .tick ≡ 0) (ea : pr .effect .answer ≡ None) (q : PlacedOf m g pr) (h : HoldsOf m s pr) where
+    (w : Puts pr) (unset : pr .effect .tick ≡ 0) (ea : pr .effect .answer ≡ None) (q : PlacedOf m g pr) (h : HoldsOf m s pr) where
   abbrev call : Call
   call = pr .call
 
@@ -156,13 +157,13 @@ module _ (m : Memory) (g : Ghost) (s : ℕ) (pr : Process) (tick : ℕ) (b : Map
   c = pr .cursor
 
   -- the put answers a and writes nothing
-  pub unwritten : (a : Answer) → Settled m g s (call .top) (c .made) (call .key) (c .level) a
+  pub unwritten : (a : Answer) → Settled m g s (call .top) (c .made) (call .key) (c .level) (classOf a)
       → putIn (maxNodes m) (maxVersions m) b (call .key) (ownVersion call) ≡ answered b a
       → Good m g s pr tick b (committed c (c .made) a) m
   unfolding processAfter
   unwritten a st e = still m g s pr tick b N B (committed c (c .made) a)
-      (record { kind = Put; phase = Release; kind-is = ek; phase-is = refl; ok = (q, tick-pos, h, st) })
-      (ek, unset, e)
+      (fits-at Release refl w (q, tick-pos, h, st))
+      (w, unset, e)
       (risen-alike (alike-refl m g) (λ y u k. absurd (no-climb ea y k)))
 
   module _ (j : ℕ) (used : suc j ≤ m .counts .nodes) (key-x : key (m .nodes) (suc j) ≡ call .key) where
@@ -194,15 +195,9 @@ module _ (m : Memory) (g : Ghost) (s : ℕ) (pr : Process) (tick : ℕ) (b : Map
           b′ = b₁ m g call b N B j used;
           nodes = nodes-kept a N;
           book = add-book m g call b N B j used space newer;
-          fits = record {
-            kind = Put;
-            phase = Release;
-            kind-is = ek;
-            phase-is = refl;
-            ok = (placed-kept (f s .grown) q, tick-pos, held-kept (f s) (q .spot) h, tt);
-          };
+          fits = fits-at Release refl w (placed-kept (f s .grown) q, tick-pos, held-kept (f s) (q .spot) h, tt);
           frame = λ s′ ne. f s′;
-          does = (ek, unset, e ∙ ap (λ z. answered z Added) (pushed-first b (call .key) j (ownVersion call) entry));
+          does = (w, unset, e ∙ ap (λ z. answered z Added) (pushed-first b (call .key) j (ownVersion call) entry));
           risen = risen-alike a (λ y u k. absurd (no-climb ea y k));
         }
 

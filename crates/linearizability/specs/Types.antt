@@ -3,8 +3,12 @@ pub use Rattle.model.specs.declared.types.Kind.{Kind}
 pub use Rattle.model.specs.declared.types.Kind.the-variants.{Idle, Put, Get}
 pub use Rattle.model.specs.declared.types.Phase.{Phase}
 pub use Rattle.model.specs.declared.types.Phase.the-variants.{Walk, Read, Seek, Lock, Check, Update, Make, Link, Release}
+pub use Rattle.model.specs.declared.types.Role.{Role}
+pub use Rattle.model.specs.declared.types.Role.the-variants.{Searching, Reading, Writing, Releasing}
 pub use Rattle.model.specs.declared.types.Answer.{Answer}
 pub use Rattle.model.specs.declared.types.Answer.the-variants.{TooOld, VersionsFull, Added, KeysFull, New, Found, None}
+pub use Rattle.model.specs.declared.types.Class.{Class}
+pub use Rattle.model.specs.declared.types.Class.the-variants.{Inserted, OtherPut, Hit, Miss}
 pub use Rattle.model.specs.declared.types.Refusal.{Refusal}
 pub use Rattle.model.specs.declared.types.Refusal.the-variants.{NodeLength, VersionLength, ProcessCount, EventLimit, NoProcess, BadKey, Busy, NoCall, Spent, Corrupt, Damaged, NoKey, NoVersion, NotOpen, UnknownCommand, CutShort}
 pub use Rattle.model.specs.declared.types.Call.{Call}

@@ -122,11 +122,11 @@ unfoldable pub said : Case → Said
 unfolding open-bench start call-of ledger-of answer-to
     numberOf placeOf
     capacity Layout.joined word Layout.withWord Layout.withNode Layout.freshNodes Layout.field Layout.withVersion
-    State.lawfulLength State.lawfulState State.lawfulStore State.isIdle
+    State.lawfulLength State.lawfulState State.lawfulStore
     Phases.ahead Phases.walked Phases.descend Phases.walkBy Phases.walkOf Phases.readOf Phases.seekBy Phases.seekOf
     Phases.lockOf Phases.checkBy Phases.checkOf Phases.addVersion Phases.updateNode Phases.updateAt Phases.updateOf
-    Phases.addNode Phases.makeOf Phases.addLink Phases.linkOf Phases.isNew Phases.rise Phases.released Phases.freed
-    Phases.releaseOf Phases.fromPut Phases.lawfulAt Phases.lawfulProcess
+    Phases.addNode Phases.makeOf Phases.addLink Phases.linkOf Phases.rise Phases.released Phases.freed
+    Phases.releaseOf Phases.lawfulAt Phases.lawfulProcess
     Phases.phaseOf Phases.turnOf
     Calls.openDue Calls.openBy openOf trailingZeros topOf Calls.startPermit Calls.startBy Calls.callFor startOf
     Calls.stepPermit Calls.processAfter Calls.outcomeOf Calls.counted Calls.tallyAfter Calls.stepBy stepOf
@@ -382,7 +382,7 @@ altered link versions = inspectOf
 
 -- "fewer nodes seen than those whose top reaches it"
 unlinked-node : altered 0 1 ≡ Inspecting.Fault 0 0
-unfolding altered Layout.joined Layout.word Layout.field Layout.capacity State.lawfulLength State.lawfulState State.lawfulStore State.isIdle
+unfolding altered Layout.joined Layout.word Layout.field Layout.capacity State.lawfulLength State.lawfulState State.lawfulStore
     Inspection.chainFalls Inspection.chainAges Inspection.chainSound Inspection.versionsSound Inspection.reaching
     Inspection.levelFrom Inspection.levelsFrom Inspection.inspection Inspection.idleBelow Inspection.inspectPermit
     Inspection.inspectBy inspectOf
@@ -390,7 +390,7 @@ unlinked-node = refl
 
 -- "a reading place that is 0 or not in use", also where no version is
 no-version : altered 1 0 ≡ Inspecting.Fault 0 1
-unfolding altered Layout.joined Layout.word Layout.field Layout.capacity State.lawfulLength State.lawfulState State.lawfulStore State.isIdle
+unfolding altered Layout.joined Layout.word Layout.field Layout.capacity State.lawfulLength State.lawfulState State.lawfulStore
     Inspection.chainFalls Inspection.chainAges Inspection.chainSound Inspection.versionsSound Inspection.reaching
     Inspection.levelFrom Inspection.levelsFrom Inspection.inspection Inspection.idleBelow Inspection.inspectPermit
     Inspection.inspectBy inspectOf

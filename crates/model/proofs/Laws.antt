@@ -9,7 +9,7 @@ use native.Mathlib.Omega.{arith}
 use borrow.Author.Tests.{leb-true, leb-false, ltb-true, eqb-false, not-false}
 use lib.Count.{trailingZeros}
 use lib.Dec.{leb, ltb, eqb, lit<}
-use lib.ListN.{length}
+use lib.ListN.{length, getD, length-set}
 use lib.Seq.{set-getD}
 use Rattle.model.specs.Types.{Answer, TooOld, VersionsFull, Added, KeysFull, New, Found, None}
 use Rattle.model.specs.Types.{Refusal, NodeLength, VersionLength, ProcessCount, EventLimit, NoProcess, BadKey}
@@ -22,11 +22,11 @@ use Rattle.model.specs.Layout.{limits, topLevel, levels, Memory, newest,
 use Rattle.model.specs.Numbers.{numberOf, placeOf, refusals, refusalOf, answers, answerOf}
 use Rattle.model.specs.Requests.{Fitting, Operation, keyOf}
 use Rattle.model.specs.State.{closedState, memoryOf, within, lawfulLength, lawfulNodes, lawfulVersions, lawfulKey}
-use Rattle.model.proofs.Tests.{leb-iff, eqb-iff}
-use Rattle.model.specs.Phases.{Moved, moved, usedVersion, lockOf, checkBy, checkOf, updateNode, updateAt}
+use Rattle.model.proofs.Tests.{leb-iff, eqb-iff, if-by}
+use Rattle.model.specs.Phases.{Moved, moved, refuses, usedVersion, lockOf, checkBy, checkOf, updateNode, updateAt}
 use Rattle.model.specs.Phases.{updateOf, makeOf, linkOf, rise, released, freed, releaseOf, phaseOf, turnOf}
 use Rattle.model.specs.Calls.{denyIf, openDue, openPermit, Opened, openBy, openOf, topOf, startPermit, startBy, startOf}
-use Rattle.model.specs.Calls.{Store, stepPermit, processAfter, outcomeOf, tallyAfter, stepBy, stepOf}
+use Rattle.model.specs.Calls.{Store, stepPermit, processAfter, outcomeOf, counted, tallyAfter, stepBy, stepOf}
 use Rattle.model.specs.Calls.{backFrom, lookNode, lookPermit, lookBy, lookOf}
 
 -- ---- numbers
@@ -243,6 +243,26 @@ module _ (s : State) (nodes versions : List ℕ) (i : ℕ) where
   pub start-refused : (op : Operation) (r : Refusal)
       → startOf s nodes versions i op .outcome ≡ Starting.Refused r → startOf s nodes versions i op .state ≡ s
   start-refused op r e = rw e at (starts op)
+
+-- ---- moves
+
+pub refused-is : (v : Move) → refuses v ≡ true → v ≡ Refuse
+refused-is Refuse e = refl
+refused-is Wait e = cc
+refused-is (Go c) e = cc
+refused-is (Note c) e = cc
+refused-is (Commit c a) e = cc
+refused-is (End a r t) e = cc
+
+pub length-tally : (t : List ℕ) (v : Move) → length (tallyAfter t v) ≡ length t
+unfolding tallyAfter counted
+length-tally t Refuse = refl
+length-tally t Wait = refl
+length-tally t (Go c) = refl
+length-tally t (Note c) = refl
+length-tally t (Commit c a) = refl
+length-tally t (End a v e) = if-by (λ (u : List ℕ). length u ≡ length t) (ltb (getD t (placeOf a) 0) (limits .count))
+    (λ h. length-set t (placeOf a) _) (λ h. refl)
 
 -- ---- one turn: of its moves, refuse and wait change no memory
 

@@ -6,13 +6,14 @@ use mathlib.Core.List.{List}
 use lib.Count.{trailingZeros}
 use lib.Dec.{eqb, ltb, leb}
 use lib.ListN.{length, getD, set, replicate}
-use Rattle.model.specs.Types.{Kind, Idle, Put, Get, Walk, Answer, None, Refusal, NodeLength, VersionLength, ProcessCount, EventLimit, NoProcess, BadKey, Busy, NoCall, Spent, Corrupt, Damaged, NoKey, NoVersion, Call, Process, State, Permit, Granted, Denied, Move, Refuse, Wait, Go, Note, Commit, End, Opening, OpenResult, Starting, StartResult, Stepping, Looking, Status}
+use Rattle.model.specs.Types.{Kind, Put, Get, Walk, Answer, None, Refusal, NodeLength, VersionLength, ProcessCount, EventLimit, NoProcess, BadKey, Busy, NoCall, Spent, Corrupt, Damaged, NoKey, NoVersion, Call, Process, State, Permit, Granted, Denied, Move, Refuse, Wait, Go, Note, Commit, End, Opening, OpenResult, Starting, StartResult, Stepping, Looking, Status}
 use Rattle.model.specs.Choice.{if_then_else_}
 use Rattle.model.specs.Layout.{Memory, topLevel, levels, limits, key, newest, prev, versionAt, freshNodes}
 use Rattle.model.specs.Numbers.{placeOf}
+use Rattle.model.specs.Roles.{isIdle}
 use Rattle.model.specs.Requests.{Fitting, Operation, put, get, keyOf}
-use Rattle.model.specs.State.{idleProcess, processAt, freshState, closedState, withEvent, memoryOf, within, lawfulNodes, lawfulVersions, lawfulKey, lawfulState, lawfulStore, isIdle}
-use Rattle.model.specs.Phases.{Moved, usedVersion, turnOf}
+use Rattle.model.specs.State.{idleProcess, processAt, freshState, closedState, withEvent, memoryOf, within, lawfulNodes, lawfulVersions, lawfulKey, lawfulState, lawfulStore}
+use Rattle.model.specs.Phases.{Moved, refuses, usedVersion, turnOf}
 
 -- "Each is given if its condition is the first met in the order below, and never otherwise."
 abbrev pub denyIf : Bool → Refusal → Permit → Permit
@@ -186,12 +187,7 @@ evented w i v m = record {
 }
 
 abbrev pub storeAfter : Store → ℕ → Move → Memory → Store
-storeAfter w i Refuse m = w
-storeAfter w i Wait m = evented w i Wait m
-storeAfter w i (Go c) m = evented w i (Go c) m
-storeAfter w i (Note c) m = evented w i (Note c) m
-storeAfter w i (Commit c a) m = evented w i (Commit c a) m
-storeAfter w i (End a v e) m = evented w i (End a v e) m
+storeAfter w i v m = if refuses v then w else evented w i v m
 
 unfoldable pub stepBy : Permit → Store → ℕ → Moved → Stepped
 stepBy (Denied r) w i v = record { outcome = Stepping.Refused r; store = w }
@@ -245,9 +241,7 @@ lookOf s nodes versions k back = lookBy (lookPermit s nodes versions k) (memoryO
 
 -- "A station's standing is idle, or kind, start tick and effect tick (0 before effect)."
 unfoldable pub standing : Kind → Process → Status
-standing Idle p = Status.Idle
-standing Put p = Status.Running Put (p .call .start) (p .effect .tick)
-standing Get p = Status.Running Get (p .call .start) (p .effect .tick)
+standing k p = if isIdle k then Status.Idle else Status.Running k (p .call .start) (p .effect .tick)
 
 -- "Standing: 10, 5; it is lent no tables, so 10 there reads the state alone."
 unfoldable pub statusPermit : State → (process : ℕ) → Permit

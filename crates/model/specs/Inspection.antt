@@ -6,9 +6,10 @@ use lib.Dec.{eqb, ltb, leb}
 use Rattle.model.specs.Types.{State, Corrupt, Busy, Permit, Granted, Denied, Inspecting}
 use Rattle.model.specs.Choice.{if_then_else_}
 use Rattle.model.specs.Layout.{Memory, levels, key, newest, top, next, lock, timestamp, prev}
-use Rattle.model.specs.State.{processAt, memoryOf, lawfulStore, isIdle}
+use Rattle.model.specs.State.{processAt, memoryOf, lawfulStore}
 use Rattle.model.specs.Phases.{usedVersion}
 use Rattle.model.specs.Calls.{denyIf}
+use Rattle.model.specs.Roles.{isIdle}
 
 -- "a reading place that is 0 or not in use, a previous place not smaller": the chain from version i, of at most `fuel` versions
 unfoldable pub chainFalls : Memory → (fuel i : ℕ) → Bool

@@ -2,6 +2,7 @@ pub mod Types
 pub mod Choice
 pub mod Layout
 pub mod Numbers
+pub mod Roles
 pub mod Requests
 pub mod Map
 pub mod State

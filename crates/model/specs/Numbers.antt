@@ -1,5 +1,4 @@
--- Document 01's number of each refusal, place of each answer in the tally, what such a number means, and what goes with an
--- answer.
+-- Document 01's number of each refusal, place of each answer in the tally, and what such a number means.
 use Prim.Native.Nat.{ℕ, _-_}
 use mathlib.Core.List.{List, [], _∷_}
 use lib.ListN.{getD}
@@ -51,13 +50,3 @@ answerOf n = getD answers n None
 
 abbrev pub noVersion : Version
 noVersion = record { value = 0; timestamp = 0 }
-
--- "value, stamp (the call's own for a put; 0 and 0 for none)"; with found go those of the newest version
-abbrev pub versionWith : Answer → (own newest : Version) → Version
-versionWith TooOld own newest = own
-versionWith VersionsFull own newest = own
-versionWith Added own newest = own
-versionWith KeysFull own newest = own
-versionWith New own newest = own
-versionWith Found own newest = newest
-versionWith None own newest = noVersion

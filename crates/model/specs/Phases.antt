@@ -5,10 +5,11 @@ use mathlib.Core.Bool.{Bool, true, false, not, _&&_, _||_}
 use mathlib.Core.List.{List}
 use lib.Dec.{eqb, ltb, leb}
 use lib.ListN.{length, getD}
-use Rattle.model.specs.Types.{Kind, Idle, Put, Get, Phase, Walk, Read, Seek, Lock, Check, Update, Make, Link, Release, Answer, TooOld, VersionsFull, Added, KeysFull, New, Found, None, Call, Cursor, Effect, Process, Version, Ahead, Unused, Less, Equal, Past, Move, Refuse, Wait, Go, Note, Commit, End}
+use Rattle.model.specs.Types.{Kind, Idle, Put, Get, Phase, Walk, Read, Seek, Lock, Check, Update, Make, Link, Release, Role, Searching, Reading, Writing, Releasing, Answer, TooOld, VersionsFull, Added, KeysFull, New, Found, None, Call, Cursor, Effect, Process, Version, Ahead, Unused, Less, Equal, Past, Move, Refuse, Wait, Go, Note, Commit, End}
 use Rattle.model.specs.Choice.{if_then_else_}
 use Rattle.model.specs.Layout.{Memory, nodeWords, versionWords, topLevel, capacity, key, newest, next, lock, timestamp, versionAt, withNewest, withNext, withLock, withNode, withVersion}
-use Rattle.model.specs.Numbers.{placeOf, noVersion, versionWith}
+use Rattle.model.specs.Numbers.{noVersion}
+use Rattle.model.specs.Roles.{isPut, roleOf, plays, fromPut, isNew, versionWith}
 
 pub record Moved : Type 0 where
   pub move : Move
@@ -16,6 +17,14 @@ pub record Moved : Type 0 where
 
 abbrev pub moved : Memory → Move → Moved
 moved m v = record { move = v; memory = m }
+
+abbrev pub refuses : Move → Bool
+refuses Refuse = true
+refuses Wait = false
+refuses (Go c) = false
+refuses (Note c) = false
+refuses (Commit c a) = false
+refuses (End a v t) = false
 
 -- the cursor in another phase, level and predecessor
 abbrev pub at : Cursor → Phase → (level pred : ℕ) → Cursor
@@ -198,9 +207,6 @@ linkOf c m =
     if usedNode m (c .made) then moved (addLink c m) (Go (at c Release (c .level) (c .pred)))
     else moved m Refuse
 
-unfoldable pub isNew : Answer → Bool
-isNew a = eqb (placeOf a) (placeOf New)
-
 -- "A put that was new and has L below its top: L rises by one, p becomes the node remembered there, go to seek."
 unfoldable pub rise : Call → Cursor → (preds : List ℕ) → Memory → (otherwise : Move) → Move
 rise call c preds m otherwise =
@@ -217,59 +223,32 @@ released call c e preds m =
 
 -- "Release: free the lock."
 unfoldable pub freed : Cursor → Memory → Move → Moved
-freed c m Refuse = moved m Refuse
-freed c m Wait = moved (withHolder m c 0) Wait
-freed c m (Go d) = moved (withHolder m c 0) (Go d)
-freed c m (Note d) = moved (withHolder m c 0) (Note d)
-freed c m (Commit d a) = moved (withHolder m c 0) (Commit d a)
-freed c m (End a v t) = moved (withHolder m c 0) (End a v t)
+freed c m v = moved (if refuses v then m else withHolder m c 0) v
 
 unfoldable pub releaseOf : Call → Cursor → Effect → (preds : List ℕ) → Memory → Moved
 releaseOf call c e preds m = freed c m (released call c e preds m)
 
 -- ---- refusal 11 "at any step", and the phase
 
--- the answers that a put gives
-unfoldable pub fromPut : Answer → Bool
-fromPut TooOld = true
-fromPut VersionsFull = true
-fromPut Added = true
-fromPut KeysFull = true
-fromPut New = true
-fromPut Found = false
-fromPut None = false
-
 abbrev pub noEffect : Effect → Bool
 noEffect e = eqb (e .tick) 0
 
--- "a get outside walk and read, a put in read, a call other than a put with an effect tick, a put at release or with an
--- effect tick whose answer no put gives"
-unfoldable pub lawfulAt : Kind → Phase → Effect → Bool
-lawfulAt Idle phase e = false
-lawfulAt Get Walk e = noEffect e
-lawfulAt Get Read e = noEffect e
-lawfulAt Get Seek e = false
-lawfulAt Get Lock e = false
-lawfulAt Get Check e = false
-lawfulAt Get Update e = false
-lawfulAt Get Make e = false
-lawfulAt Get Link e = false
-lawfulAt Get Release e = false
-lawfulAt Put Walk e = noEffect e || fromPut (e .answer)
-lawfulAt Put Read e = false
-lawfulAt Put Seek e = noEffect e || fromPut (e .answer)
-lawfulAt Put Lock e = noEffect e || fromPut (e .answer)
-lawfulAt Put Check e = noEffect e || fromPut (e .answer)
-lawfulAt Put Update e = noEffect e || fromPut (e .answer)
-lawfulAt Put Make e = noEffect e || fromPut (e .answer)
-lawfulAt Put Link e = noEffect e || fromPut (e .answer)
-lawfulAt Put Release e = fromPut (e .answer)
+-- "a get outside walk and read, a put in read" (`plays`), "a call other than a put with an effect tick, a put at release or with
+-- an effect tick whose answer no put gives"
+abbrev pub lawfulEffect : Kind → Role → Effect → Bool
+lawfulEffect k Searching e = noEffect e || (isPut k && fromPut (e .answer))
+lawfulEffect k Reading e = noEffect e
+lawfulEffect k Writing e = noEffect e || fromPut (e .answer)
+lawfulEffect k Releasing e = fromPut (e .answer)
+
+unfoldable pub lawfulAt : Kind → Role → Effect → Bool
+lawfulAt k role e = plays k role && lawfulEffect k role e
 
 -- "11 at any step a level above 5, p not in use"
 unfoldable pub lawfulProcess : Process → Memory → Bool
 lawfulProcess p m =
     leb (p .cursor .level) topLevel && leb (p .cursor .pred) (m .counts .nodes)
-    && lawfulAt (p .call .kind) (p .cursor .phase) (p .effect)
+    && lawfulAt (p .call .kind) (roleOf (p .cursor .phase)) (p .effect)
 
 unfoldable pub phaseOf : Phase → (holder tick : ℕ) → Process → Memory → Moved
 phaseOf Walk holder tick p m = moved m (walkOf (p .call) (p .cursor) tick m)

@@ -4,7 +4,7 @@ use mathlib.Core.Bool.{Bool, true, false, _&&_}
 use mathlib.Core.List.{List, []}
 use lib.Dec.{leb, eqb}
 use lib.ListN.{length, getD, set, replicate}
-use Rattle.model.specs.Types.{Kind, Idle, Put, Get, Walk, Answer, TooOld, None, Process, Lengths, Counts, State}
+use Rattle.model.specs.Types.{Idle, Walk, Answer, TooOld, None, Process, Lengths, Counts, State}
 use Rattle.model.specs.Layout.{nodeWords, versionWords, levels, limits, capacity, Memory}
 
 -- a process without a call; what document 01 does not name of it is 0
@@ -93,8 +93,3 @@ lawfulState s =
 unfoldable pub lawfulStore : State → (nodes versions : List ℕ) → Bool
 lawfulStore s nodes versions =
     lawfulState s && eqb (length nodes) (s .lengths .nodes) && eqb (length versions) (s .lengths .versions)
-
-unfoldable pub isIdle : Kind → Bool
-isIdle Idle = true
-isIdle Put = false
-isIdle Get = false

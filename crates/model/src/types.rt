@@ -23,6 +23,14 @@ pub enum Phase {
     Release, // tryInsert, insert: release; insertAll: the next level
 }
 
+// What a phase is for: which kinds go through it goes by this.
+pub enum Role {
+    Searching, // every call's
+    Reading, // a get's
+    Writing, // a put's
+    Releasing, // a put's, once it has its answer
+}
+
 // Document 01's answers, in the order in which its plain ledger names them.
 pub enum Answer {
     TooOld,
@@ -32,6 +40,14 @@ pub enum Answer {
     New,
     Found,
     None,
+}
+
+// Whose an answer is: what goes with it, and what may follow it, goes by this.
+pub enum Class {
+    Inserted, // a put's that made its node
+    OtherPut, // a put's that made none
+    Hit, // a get's with a version
+    Miss, // a get's without one
 }
 
 // Document 01's refusals 1 to 16, in its order.

@@ -1,8 +1,7 @@
 -- What the phases ask of their arguments, and how their contracts name what a step leaves.
 use Prim.Native.Nat.{ℕ, _≤_}
-use mathlib.Core.Bool.{Bool, true, false}
 use mathlib.Core.List.{List}
-use Rattle.phases.specs.Types.{Cursor, Move, Refuse, Wait, Go, Note, Commit, End}
+use Rattle.phases.specs.Types.{Cursor}
 use Rattle.model.specs.Layout.{topLevel}
 use Rattle.model.specs.Phases.{Moved}
 use Rattle.tables.specs.Room.{NodeRoom, memory}
@@ -17,11 +16,3 @@ pub record Ready (nodes : List ℕ) (used : ℕ) (c : Cursor) : Type 0 where
 -- the move and the memory that a step leaves
 abbrev pub leaves : Turned → (nodes versions : List ℕ) → Moved
 leaves t nodes versions = record { move = t .mv; memory = memory nodes versions (t .counts) }
-
-abbrev pub refuses : Move → Bool
-refuses Refuse = true
-refuses Wait = false
-refuses (Go c) = false
-refuses (Note c) = false
-refuses (Commit c a) = false
-refuses (End a v t) = false

@@ -3,14 +3,14 @@ ghost use mathlib.Core.Path.{_≡_};
 ghost use mathlib.Core.List.{List};
 ghost use Prim.Native.Nat.{ℕ};
 ghost use Rattle.phases.specs.Types.{Counts};
-ghost use Rattle.model.specs.Numbers.{noVersion, versionWith};
-ghost use Rattle.model.specs.Phases.{moved, lockOf, checked, checkOf, isNew, rise, released, releaseOf};
+ghost use Rattle.model.specs.Phases.{moved, lockOf, checked, checkOf, rise, released, releaseOf};
 ghost use Rattle.tables.specs.Room.{LevelRoom, memory, nodesIn};
 ghost use Rattle.phases.specs.Turn.{Ready};
 use crate::moves::go;
 use crate::moves::is_refusal;
+use model::roles::is_new;
+use model::roles::version_with;
 use model::types::Ahead;
-use model::types::Answer;
 use model::types::Call;
 use model::types::Cursor;
 use model::types::Effect;
@@ -59,41 +59,6 @@ pub fn check(call: Call, c: Cursor, used: u32, nodes: &mut [u32]) -> Move
         }
         Ahead::Equal(_) => settle(c, Phase::Update),
         Ahead::Past => settle(c, Phase::Make),
-    }
-}
-
-fn is_new(answer: Answer) -> bool
-    ensures { λ r. ⌜ r ≡ isNew answer ⌝ }
-{
-    match answer {
-        Answer::TooOld => false,
-        Answer::VersionsFull => false,
-        Answer::Added => false,
-        Answer::KeysFull => false,
-        Answer::New => true,
-        Answer::Found => false,
-        Answer::None => false,
-    }
-}
-
-// What goes with a put's answer: its own version.
-fn version_with(answer: Answer, own: Version) -> Version
-    ensures { λ r. ⌜ r ≡ versionWith answer own noVersion ⌝ }
-{
-    match answer {
-        Answer::TooOld => own,
-        Answer::VersionsFull => own,
-        Answer::Added => own,
-        Answer::KeysFull => own,
-        Answer::New => own,
-        Answer::Found => Version {
-            value: 0,
-            timestamp: 0,
-        },
-        Answer::None => Version {
-            value: 0,
-            timestamp: 0,
-        },
     }
 }
 

@@ -1,7 +1,6 @@
 // The moves that carry a cursor, and the test for the one that refuses.
 ghost use mathlib.Core.Path.{_≡_};
-ghost use Rattle.model.specs.Phases.{at, committed};
-ghost use Rattle.phases.specs.Turn.{refuses};
+ghost use Rattle.model.specs.Phases.{at, committed, refuses};
 ghost use Rattle.phases.specs.Types.{Go, Note};
 use model::types::Answer;
 use model::types::Cursor;

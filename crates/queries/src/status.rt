@@ -2,7 +2,7 @@
 ghost use mathlib.Core.Path.{_≡_};
 ghost use Rattle.model.specs.Calls.{standing, statusOf};
 use layout::head::header_of;
-use model::types::Kind;
+use model::roles::is_idle;
 use model::types::Permit;
 use model::types::Process;
 use model::types::State;
@@ -14,10 +14,10 @@ fn standing(p: Process) -> Status
 {
     let call = p.call;
     let kind = call.kind;
-    match kind {
-        Kind::Idle => Status::Idle,
-        Kind::Put => Status::Running(Kind::Put, call.start, p.effect.tick),
-        Kind::Get => Status::Running(Kind::Get, call.start, p.effect.tick),
+    if is_idle(kind) {
+        Status::Idle
+    } else {
+        Status::Running(kind, call.start, p.effect.tick)
     }
 }
 

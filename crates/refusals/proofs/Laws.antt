@@ -15,9 +15,10 @@ use Rattle.model.specs.declared.types.Permit.the-variants.{Granted}
 use Rattle.model.specs.declared.types.Refusal.the-variants.{Corrupt, NoProcess, BadKey, Busy, NoCall, Spent}
 use Rattle.model.specs.declared.types.State.{State}
 use Rattle.model.specs.Layout.{limits, nodeWords, versionWords, capacity}
-use Rattle.model.specs.State.{processAt, isIdle, within, lawfulKey, lawfulNodes, lawfulVersions, lawfulLength, lawfulState, lawfulStore}
+use Rattle.model.specs.State.{processAt, within, lawfulKey, lawfulNodes, lawfulVersions, lawfulLength, lawfulState, lawfulStore}
 use Rattle.model.specs.Calls.{denyIf, noSuch, spent, openDue, openPermit, startPermit, Store, stepPermit, statusPermit}
 use Rattle.model.specs.Inspection.{idleBelow}
+use Rattle.model.specs.Roles.{isIdle}
 use Rattle.model.proofs.Laws.{granted-iff}
 use Rattle.model.proofs.Tests.{leb-iff, eqb-iff}
 

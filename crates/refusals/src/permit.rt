@@ -5,7 +5,6 @@ ghost use mathlib.Core.Bool.{not};
 ghost use Prim.Native.Nat.{_≤_};
 ghost use Rattle.model.specs.declared.types.State.{State};
 ghost use Rattle.model.specs.Layout.{limits};
-ghost use Rattle.model.specs.State.{isIdle};
 ghost use Rattle.model.specs.Calls.{denyIf, openPermit, startPermit, stepPermit, lookPermit, statusPermit, storeOf};
 ghost use Rattle.model.specs.Inspection.{idleBelow, inspectPermit};
 ghost use Rattle.layout.specs.Head.{headerWords, headerOf};
@@ -18,6 +17,7 @@ use crate::lawful::lawful_store;
 use crate::lawful::lawful_versions;
 use layout::head::header_of;
 use model::bounds::within;
+use model::roles::is_idle;
 use model::types::Kind;
 use model::types::Permit;
 use model::types::Refusal;
@@ -36,16 +36,6 @@ fn deny_unless(lawful: bool, refusal: Refusal, rest: Permit) -> Permit
         rest
     } else {
         Permit::Denied(refusal)
-    }
-}
-
-fn is_idle(kind: Kind) -> bool
-    ensures { λ r. ⌜ r ≡ isIdle kind ⌝ }
-{
-    match kind {
-        Kind::Idle => true,
-        Kind::Put => false,
-        Kind::Get => false,
     }
 }
 

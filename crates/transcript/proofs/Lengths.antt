@@ -5,15 +5,15 @@ use mathlib.Core.Bool.{not, _||_}
 use mathlib.Core.List.{List, [], _∷_}
 use mathlib.Core.Path.{_≡_, refl, _∙_}
 use lib.Dec.{eqb, ltb, leb}
-use lib.ListN.{length, getD, take, replicate, length-set, length-replicate}
+use lib.ListN.{length, take, replicate, length-replicate}
 use lib.Seq.{length-front}
 use Rattle.model.specs.Layout.{Memory, limits, nodeWords, versionWords, topLevel, newest, next, lock, timestamp, freshNodes}
-use Rattle.model.specs.Numbers.{placeOf}
 use Rattle.model.specs.State.{memoryOf}
-use Rattle.model.specs.Phases.{Moved, moved, usedNode, usedVersion, maxNodes, maxVersions, withHolder, aheadOf, lockOf, checkBy}
+use Rattle.model.specs.Phases.{Moved, moved, refuses, usedNode, usedVersion, maxNodes, maxVersions, withHolder, aheadOf, lockOf, checkBy}
 use Rattle.model.specs.Phases.{checkOf, addVersion, updateNode, updateAt, updateOf, addNode, makeOf, addLink, linkOf, freed}
 use Rattle.model.specs.Phases.{released, releaseOf, lawfulProcess, phaseOf, turnOf}
-use Rattle.model.specs.Calls.{openPermit, openBy, openOf, counted, tallyAfter, evented, Store, stepPermit, stepBy, stepOf}
+use Rattle.model.specs.Calls.{openPermit, openBy, openOf, Store, stepPermit, stepBy, stepOf}
+use Rattle.model.proofs.Laws.{length-tally}
 use Rattle.model.proofs.Tests.{if-by}
 use Rattle.model.proofs.Words.{length-word, length-node, length-version}
 use Rattle.buffers.specs.Session.{Session, Done, lent, tableWords, openOn, callOn}
@@ -54,12 +54,7 @@ module _ (c : Cursor) (m : Memory) where
 
   release-long : (v : Move) → Of (freed c m v)
   unfolding freed
-  release-long Refuse = as-long m
-  release-long Wait = held-long 0
-  release-long (Go d) = held-long 0
-  release-long (Note d) = held-long 0
-  release-long (Commit d a) = held-long 0
-  release-long (End a v t) = held-long 0
+  release-long v = if-by (Long m) (refuses v) (λ t. as-long m) (λ t. held-long 0)
 
   update-long : (call : Call) (x : ℕ) → Of (updateAt call c x m)
   unfolding updateAt updateNode addVersion
@@ -119,23 +114,19 @@ pub record Keeps (w w′ : Store) : Type 0 where
   pub open-too : w′ .state .opened ≡ w .state .opened
 
 module _ (w : Store) (i : ℕ) (m : Memory) (l : Long (memoryOf (w .state) (w .nodes) (w .versions)) m) where
-  kept : (v : Move) → length (tallyAfter (w .tally) v) ≡ length (w .tally) → Keeps w (evented w i v m)
-  kept v t = record { nodes = l .nodes; versions = l .versions; tally = t; lengths = refl; open-too = refl }
-
-  length-counted : (a : Answer) → length (counted (w .tally) a) ≡ length (w .tally)
-  unfolding counted
-  length-counted a = if-by (λ (t : List ℕ). length t ≡ length (w .tally)) (ltb (getD (w .tally) (placeOf a) 0) (limits .count))
-      (λ t. length-set (w .tally) (placeOf a) _) (λ t. refl)
+  as-it-was : Keeps w w
+  as-it-was = record { nodes = refl; versions = refl; tally = refl; lengths = refl; open-too = refl }
 
   step-by : (p : Permit) (v : Move) → Keeps w (stepBy p w i (moved m v) .store)
-  unfolding stepBy tallyAfter
-  step-by (Denied r) v = record { nodes = refl; versions = refl; tally = refl; lengths = refl; open-too = refl }
-  step-by Granted Refuse = record { nodes = refl; versions = refl; tally = refl; lengths = refl; open-too = refl }
-  step-by Granted Wait = kept Wait refl
-  step-by Granted (Go c) = kept (Go c) refl
-  step-by Granted (Note c) = kept (Note c) refl
-  step-by Granted (Commit c a) = kept (Commit c a) refl
-  step-by Granted (End a v t) = kept (End a v t) (length-counted a)
+  unfolding stepBy
+  step-by (Denied r) v = as-it-was
+  step-by Granted v = if-by (Keeps w) (refuses v) (λ t. as-it-was) (λ t. record {
+    nodes = l .nodes;
+    versions = l .versions;
+    tally = length-tally (w .tally) v;
+    lengths = refl;
+    open-too = refl;
+  })
 
 pub step-keeps : (w : Store) (i : ℕ) → Keeps w (stepOf w i .store)
 unfolding stepOf

@@ -11,9 +11,8 @@ use Rattle.model.specs.declared.types.Process.{Process}
 use Rattle.model.specs.declared.types.Move.the-variants.{Refuse}
 use Rattle.model.specs.Choice.{if_then_else_}
 use Rattle.model.specs.Layout.{Memory, topLevel}
-use Rattle.model.specs.Phases.{Moved, moved, lawfulProcess, phaseOf, turnOf}
+use Rattle.model.specs.Phases.{Moved, moved, lawfulProcess, phaseOf, turnOf, refuses}
 use Rattle.model.proofs.Tests.{leb-iff}
-use Rattle.phases.specs.Turn.{refuses}
 use Rattle.transition.specs.Process.{process}
 
 -- what the test of refusal 11 "at any step" tells of the cursor

@@ -6,7 +6,7 @@ use native.Mathlib.Omega.{arith}
 use lib.ListN.{length, take, drop}
 use Rattle.model.specs.Layout.{topLevel}
 use Rattle.model.specs.Calls.{outcomeOf, tallyAfter}
-use Rattle.phases.specs.Turn.{refuses}
+use Rattle.model.specs.Phases.{refuses}
 use Rattle.process.specs.ProcessWords.{sizes, processFrom, knownProcess}
 use Rattle.layout.proofs.Known.{part-is, part-long}
 use Rattle.apply.proofs.Left.{left-refused, left-moved, left-waits, left-goes}

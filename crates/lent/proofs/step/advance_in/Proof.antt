@@ -5,10 +5,9 @@ use mathlib.Core.Path.{_≡_, refl, sym, ap, subst, _∙_}
 use native.Mathlib.Omega.{arith}
 use lib.ListN.{length, getD}
 use Rattle.model.specs.Layout.{topLevel}
-use Rattle.model.specs.Phases.{turnOf}
+use Rattle.model.specs.Phases.{turnOf, refuses}
 use Rattle.model.specs.Calls.{storeOf}
 use Rattle.tables.specs.Room.{memory}
-use Rattle.phases.specs.Turn.{refuses}
 use Rattle.transition.proofs.Laws.{level-fits}
 use Rattle.refusals.proofs.Laws.{MayStep, may-step}
 use Rattle.calls.proofs.Laws.{lent-may-step}

@@ -1,6 +1,5 @@
 -- The lock is freed unless the move is a refusal.
-use Rattle.model.specs.Phases.{releaseOf}
-use Rattle.phases.proofs.Laws.{freed-is}
+use Rattle.model.specs.Phases.{freed, releaseOf}
 use borrow.Author.Needs.{needs}
 use Rattle.phases.proofs.lock.release.Statement.{statement}
 use Rattle.phases.proofs.lock.release.Tie as tie
@@ -12,8 +11,8 @@ is-refusal-requires : tie.Need-is-refusal-requires
 is-refusal-requires c κs = search needs
 
 returns : tie.Need-returns
-unfolding releaseOf
-returns c = λ vs n. simp (freed-is, ← c .before .before .released .ensures, ← c .before .is-refusal .ensures, c .if1 .taken)
+unfolding releaseOf freed
+returns c = λ vs n. simp (← c .before .before .released .ensures, ← c .before .is-refusal .ensures, c .if1 .taken)
 
 set-lock-requires : tie.Need-set-lock-requires
 set-lock-requires c κs = search needs
@@ -22,10 +21,9 @@ same-length : tie.Need-same-length
 same-length c = search needs
 
 returns-2 : tie.Need-returns-2
-unfolding releaseOf
+unfolding releaseOf freed
 returns-2 c =
     λ vs n. simp (
-      freed-is,
       c .before .before .set-lock .ensures,
       ← c .before .before .before .before .before .before .released .ensures,
       ← c .before .before .before .before .before .is-refusal .ensures,

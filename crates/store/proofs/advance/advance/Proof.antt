@@ -2,9 +2,9 @@
 use mathlib.Core.Path.{_≡_, sym, ap, _∙_}
 use lib.ListN.{length}
 use borrow.Author.Needs.{needs}
-use Rattle.model.specs.Phases.{turnOf}
+use Rattle.model.specs.Phases.{turnOf, refuses}
 use Rattle.tables.specs.Room.{memory}
-use Rattle.phases.specs.Turn.{leaves, refuses}
+use Rattle.phases.specs.Turn.{leaves}
 use Rattle.process.specs.ProcessWords.{sizes, processFrom}
 use Rattle.process.proofs.RoundTrip.{process-from, process-short}
 use Rattle.calls.specs.Advance.{advanceOf, advanceBy}

@@ -1,0 +1,80 @@
+-- What differs by kind and by answer, said once: which calls go through a phase, and whose an answer is. All else goes by
+-- role, by class, or by the phase alone.
+use mathlib.Core.Bool.{Bool, true, false, not}
+use Rattle.model.specs.Types.{Kind, Idle, Put, Get, Phase, Walk, Read, Seek, Lock, Check, Update, Make, Link, Release, Role, Searching, Reading, Writing, Releasing, Answer, TooOld, VersionsFull, Added, KeysFull, New, Found, None, Class, Inserted, OtherPut, Hit, Miss, Version}
+use Rattle.model.specs.Numbers.{noVersion}
+
+-- ---- kinds and phases
+
+abbrev pub isIdle : Kind → Bool
+isIdle Idle = true
+isIdle Put = false
+isIdle Get = false
+
+abbrev pub isPut : Kind → Bool
+isPut Idle = false
+isPut Put = true
+isPut Get = false
+
+abbrev pub isGet : Kind → Bool
+isGet Idle = false
+isGet Put = false
+isGet Get = true
+
+abbrev pub roleOf : Phase → Role
+roleOf Walk = Searching
+roleOf Read = Reading
+roleOf Seek = Writing
+roleOf Lock = Writing
+roleOf Check = Writing
+roleOf Update = Writing
+roleOf Make = Writing
+roleOf Link = Writing
+roleOf Release = Releasing
+
+-- the calls that go through a phase: "a get outside walk and read, a put in read" is refused
+abbrev pub plays : Kind → Role → Bool
+plays k Searching = not (isIdle k)
+plays k Reading = isGet k
+plays k Writing = isPut k
+plays k Releasing = isPut k
+
+-- ---- answers
+
+abbrev pub classOf : Answer → Class
+classOf TooOld = OtherPut
+classOf VersionsFull = OtherPut
+classOf Added = OtherPut
+classOf KeysFull = OtherPut
+classOf New = Inserted
+classOf Found = Hit
+classOf None = Miss
+
+-- the answers that a put gives
+abbrev pub putClass : Class → Bool
+putClass Inserted = true
+putClass OtherPut = true
+putClass Hit = false
+putClass Miss = false
+
+abbrev pub newClass : Class → Bool
+newClass Inserted = true
+newClass OtherPut = false
+newClass Hit = false
+newClass Miss = false
+
+-- "value, stamp (the call's own for a put; 0 and 0 for none)"; with found go those of the newest version
+abbrev pub classVersion : Class → (own newest : Version) → Version
+classVersion Inserted own newest = own
+classVersion OtherPut own newest = own
+classVersion Hit own newest = newest
+classVersion Miss own newest = noVersion
+
+abbrev pub fromPut : Answer → Bool
+fromPut a = putClass (classOf a)
+
+abbrev pub isNew : Answer → Bool
+isNew a = newClass (classOf a)
+
+abbrev pub versionWith : Answer → (own newest : Version) → Version
+versionWith a own newest = classVersion (classOf a) own newest
