@@ -212,11 +212,11 @@ module _ (m : Memory) (g : Ghost) (s : ℕ) (pr : Process) (tick : ℕ) (b : Map
     nodes = link-nodes m g s (c .level) (c .pred) (c .made) (pr .call .key) (pr .call .top) N (q .spot) cl h f;
     book = link-book m g s (c .level) (c .pred) (c .made) (pr .call .key) (pr .call .top) N (q .spot) cl h f B;
     fits = fits-at Release refl w (
-        placed-kept (link-grown m g s (c .level) (c .pred) (c .made) (pr .call .key) (pr .call .top) N (q .spot) cl h f (suc s) (omega arith)) q,
-        ne,
-        locks-old m g s (c .level) (c .pred) (c .made) (pr .call .key) (pr .call .top) N (q .spot) cl h f (c .level) (c .pred) (q .spot .used, q .spot .up) ∙ h,
-        rw ea (le, link-made m g s (c .level) (c .pred) (c .made) (pr .call .key) (pr .call .top) N (q .spot) cl h f),
-      );
+      placed-kept (link-grown m g s (c .level) (c .pred) (c .made) (pr .call .key) (pr .call .top) N (q .spot) cl h f (suc s) (omega arith)) q,
+      ne,
+      locks-old m g s (c .level) (c .pred) (c .made) (pr .call .key) (pr .call .top) N (q .spot) cl h f (c .level) (c .pred) (q .spot .used, q .spot .up) ∙ h,
+      rw ea (le, link-made m g s (c .level) (c .pred) (c .made) (pr .call .key) (pr .call .top) N (q .spot) cl h f),
+    );
     frame = link-frame m g s (c .level) (c .pred) (c .made) (pr .call .key) (pr .call .top) N (q .spot) cl h f;
     does = (refl, refl);
     risen = link-risen m g s (c .level) (c .pred) (c .made) (pr .call .key) (pr .call .top) N (q .spot) cl h f pr

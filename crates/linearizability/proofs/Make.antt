@@ -294,12 +294,12 @@ module _ (m : Memory) (g : Ghost) (s : ℕ) (pr : Process) (tick : ℕ) (b : Map
     nodes = make-nodes m g s (pr .call) (c .pred) b N B at₀ clear₀ held₀ room space;
     book = make-book m g s (pr .call) (c .pred) b N B at₀ clear₀ held₀ room space;
     fits = fits-at Release refl w (
-        placed-kept (make-grown m g s (pr .call) (c .pred) b N B at₀ clear₀ held₀ room space s) q,
-        tick-pos,
-        locks-old m g s (pr .call) (c .pred) b N B at₀ clear₀ held₀ room space (c .level) (c .pred) (q .spot .used, q .spot .up)
-            ∙ h,
-        (omega arith, rw el (make-made m g s (pr .call) (c .pred) b N B at₀ clear₀ held₀ room space)),
-      );
+      placed-kept (make-grown m g s (pr .call) (c .pred) b N B at₀ clear₀ held₀ room space s) q,
+      tick-pos,
+      locks-old m g s (pr .call) (c .pred) b N B at₀ clear₀ held₀ room space (c .level) (c .pred) (q .spot .used, q .spot .up)
+          ∙ h,
+      (omega arith, rw el (make-made m g s (pr .call) (c .pred) b N B at₀ clear₀ held₀ room space)),
+    );
     frame = make-frame m g s (pr .call) (c .pred) b N B at₀ clear₀ held₀ room space;
     does = (w, unset, e);
     risen = make-risen m g s (pr .call) (c .pred) b N B at₀ clear₀ held₀ room space pr

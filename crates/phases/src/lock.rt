@@ -25,7 +25,8 @@ use tables::nodes::set_lock;
 // The lock phase.
 pub fn acquire(c: Cursor, holder: u32, nodes: &mut [u32]) -> Move
     requires { ⌜ LevelRoom (now nodes) (c .level) (c .pred) ⌝ }
-    ensures { λ r. ⌜ ((versions : List ℕ) (counts : Counts) → moved (memory (now (nodes .exit)) versions counts) r ≡ lockOf c holder (memory (now (nodes .entry)) versions counts)) ⌝ }
+    ensures { λ r. ⌜ ((versions : List ℕ) (counts : Counts) → moved (memory (now (nodes .exit)) versions counts) r
+        ≡ lockOf c holder (memory (now (nodes .entry)) versions counts)) ⌝ }
 {
     if lock_at(nodes, c.level, c.pred) == 0 {
         set_lock(nodes, c.level, c.pred, holder);
@@ -48,7 +49,8 @@ fn settle(c: Cursor, bottom: Phase) -> Move
 
 pub fn check(call: Call, c: Cursor, used: u32, nodes: &mut [u32]) -> Move
     requires { ⌜ Ready (now nodes) used c ⌝ }
-    ensures { λ r. ⌜ ((versions : List ℕ) (n : ℕ) → moved (nodesIn (now (nodes .exit)) used versions n) r ≡ checkOf call c (nodesIn (now (nodes .entry)) used versions n)) ⌝ }
+    ensures { λ r. ⌜ ((versions : List ℕ) (n : ℕ) → moved (nodesIn (now (nodes .exit)) used versions n) r
+        ≡ checkOf call c (nodesIn (now (nodes .entry)) used versions n)) ⌝ }
 {
     let a = ahead(nodes, used, c.level, c.pred, call.key);
     match a {
@@ -109,7 +111,8 @@ pub fn release(
     nodes: &mut [u32],
 ) -> Move
     requires { ⌜ LevelRoom (now nodes) (c .level) (c .pred) ⌝ }
-    ensures { λ r. ⌜ ((versions : List ℕ) (n : ℕ) → moved (nodesIn (now (nodes .exit)) used versions n) r ≡ releaseOf call c e preds (nodesIn (now (nodes .entry)) used versions n)) ⌝ }
+    ensures { λ r. ⌜ ((versions : List ℕ) (n : ℕ) → moved (nodesIn (now (nodes .exit)) used versions n) r
+        ≡ releaseOf call c e preds (nodesIn (now (nodes .entry)) used versions n)) ⌝ }
 {
     let m = released(call, c, e, used, preds);
     if is_refusal(m) {

@@ -66,7 +66,8 @@ pub fn walk(call: Call, c: Cursor, tick: u32, used: u32, nodes: &[u32]) -> Move
 pub fn read(c: Cursor, tick: u32, used: u32, held: u32, nodes: &[u32], versions: &[u32]) -> Move
     requires { ⌜ Ready (now nodes) used c ⌝ }
     requires { ⌜ VersionRoom (now versions) held ⌝ }
-    ensures { λ r. ⌜ ((call : Call) → r ≡ readOf call c tick (memory (now (nodes .entry)) (now (versions .entry)) (record { nodes = used; versions = held }))) ⌝ }
+    ensures { λ r. ⌜ ((call : Call) → r
+        ≡ readOf call c tick (memory (now (nodes .entry)) (now (versions .entry)) (record { nodes = used; versions = held }))) ⌝ }
 {
     let i = newest_at(nodes, c.pred);
     let in_use = (1 <= i) & (i <= held);

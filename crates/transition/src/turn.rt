@@ -24,6 +24,13 @@ use writes::put::link;
 use writes::put::make;
 use writes::put::update;
 
+// A move that leaves the counts in use.
+fn with(mv: Move, counts: Counts) -> Turned
+    ensures { λ r. ⌜ (r .mv ≡ mv) × (r .counts ≡ counts) ⌝ }
+{
+    Turned { mv, counts }
+}
+
 // The step of the call's phase.
 fn run(
     w: &[u32],
@@ -36,61 +43,30 @@ fn run(
     requires { ⌜ length (now w) ≡ sizes .process ⌝ }
     requires { ⌜ Ready (now nodes) (counts .nodes) (processFrom (now w) .cursor) ⌝ }
     requires { ⌜ Lent (now nodes) (now versions) counts ⌝ }
-    ensures { λ r. ⌜ leaves r (now (nodes .exit)) (now (versions .exit)) ≡ phaseOf (processFrom (now (w .entry)) .cursor .phase) holder tick (processFrom (now (w .entry))) (memory (now (nodes .entry)) (now (versions .entry)) counts) ⌝ }
+    ensures { λ r. ⌜ leaves r (now (nodes .exit)) (now (versions .exit))
+        ≡ phaseOf (processFrom (now (w .entry)) .cursor .phase) holder tick (processFrom (now (w .entry)))
+        (memory (now (nodes .entry)) (now (versions .entry)) counts) ⌝ }
 {
+    let call = call_in(w);
     let c = cursor_in(w);
     let phase = c.phase;
     let used = counts.nodes;
     match phase {
-        Phase::Walk => {
-            let call = call_in(w);
-            Turned {
-                mv: walk(call, c, tick, used, nodes),
-                counts,
-            }
-        }
-        Phase::Read => Turned {
-            mv: read(c, tick, used, counts.versions, nodes, versions),
+        Phase::Walk => with(walk(call, c, tick, used, nodes), counts),
+        Phase::Read => with(
+            read(c, tick, used, counts.versions, nodes, versions),
             counts,
-        },
-        Phase::Seek => {
-            let call = call_in(w);
-            Turned {
-                mv: seek(call, c, used, nodes),
-                counts,
-            }
-        }
-        Phase::Lock => Turned {
-            mv: acquire(c, holder, nodes),
-            counts,
-        },
-        Phase::Check => {
-            let call = call_in(w);
-            Turned {
-                mv: check(call, c, used, nodes),
-                counts,
-            }
-        }
-        Phase::Update => {
-            let call = call_in(w);
-            update(call, c, counts, nodes, versions)
-        }
-        Phase::Make => {
-            let call = call_in(w);
-            make(call, c, counts, nodes, versions)
-        }
-        Phase::Link => Turned {
-            mv: link(c, used, nodes),
-            counts,
-        },
+        ),
+        Phase::Seek => with(seek(call, c, used, nodes), counts),
+        Phase::Lock => with(acquire(c, holder, nodes), counts),
+        Phase::Check => with(check(call, c, used, nodes), counts),
+        Phase::Update => update(call, c, counts, nodes, versions),
+        Phase::Make => make(call, c, counts, nodes, versions),
+        Phase::Link => with(link(c, used, nodes), counts),
         Phase::Release => {
-            let call = call_in(w);
             let e = effect_in(w);
             let preds = preds_in(w);
-            Turned {
-                mv: release(call, c, e, used, preds, nodes),
-                counts,
-            }
+            with(release(call, c, e, used, preds, nodes), counts)
         }
     }
 }
@@ -106,7 +82,8 @@ pub fn turn(
 ) -> Turned
     requires { ⌜ length (now w) ≡ sizes .process ⌝ }
     requires { ⌜ Lent (now nodes) (now versions) counts ⌝ }
-    ensures { λ r. ⌜ leaves r (now (nodes .exit)) (now (versions .exit)) ≡ turnOf holder tick (processFrom (now (w .entry))) (memory (now (nodes .entry)) (now (versions .entry)) counts) ⌝ }
+    ensures { λ r. ⌜ leaves r (now (nodes .exit)) (now (versions .exit))
+        ≡ turnOf holder tick (processFrom (now (w .entry))) (memory (now (nodes .entry)) (now (versions .entry)) counts) ⌝ }
 {
     let call = call_in(w);
     let c = cursor_in(w);

@@ -37,7 +37,8 @@ fn add_version(
 ) -> Counts
     requires { ⌜ NodeRoom (now nodes) node ⌝ }
     requires { ⌜ VersionSpare (now versions) (counts .versions) ⌝ }
-    ensures { λ r. ⌜ memory (now (nodes .exit)) (now (versions .exit)) r ≡ addVersion call node (memory (now (nodes .entry)) (now (versions .entry)) counts) ⌝ }
+    ensures { λ r. ⌜ memory (now (nodes .exit)) (now (versions .exit)) r
+        ≡ addVersion call node (memory (now (nodes .entry)) (now (versions .entry)) counts) ⌝ }
 {
     let i = counts.versions + 1;
     let prev = newest_at(nodes, node);
@@ -72,7 +73,8 @@ fn update_node(
     requires { ⌜ NodeRoom (now nodes) node ⌝ }
     requires { ⌜ newest ≤ counts .versions ⌝ }
     requires { ⌜ Lent (now nodes) (now versions) counts ⌝ }
-    ensures { λ r. ⌜ leaves r (now (nodes .exit)) (now (versions .exit)) ≡ updateNode call c node newest (memory (now (nodes .entry)) (now (versions .entry)) counts) ⌝ }
+    ensures { λ r. ⌜ leaves r (now (nodes .exit)) (now (versions .exit))
+        ≡ updateNode call c node newest (memory (now (nodes .entry)) (now (versions .entry)) counts) ⌝ }
 {
     if call.timestamp < timestamp_at(versions, newest) {
         return keep(c, Answer::TooOld, counts);
@@ -94,7 +96,8 @@ pub fn update(
 ) -> Turned
     requires { ⌜ Ready (now nodes) (counts .nodes) c ⌝ }
     requires { ⌜ Lent (now nodes) (now versions) counts ⌝ }
-    ensures { λ r. ⌜ leaves r (now (nodes .exit)) (now (versions .exit)) ≡ updateOf call c (memory (now (nodes .entry)) (now (versions .entry)) counts) ⌝ }
+    ensures { λ r. ⌜ leaves r (now (nodes .exit)) (now (versions .exit))
+        ≡ updateOf call c (memory (now (nodes .entry)) (now (versions .entry)) counts) ⌝ }
 {
     let node = next_at(nodes, 0, c.pred);
     let used = counts.nodes;
@@ -117,7 +120,8 @@ pub fn update(
 fn insert(nodes: &mut [u32], pred: u32, node: u32, key: u64, version: u32, top: u32)
     requires { ⌜ NodeRoom (now nodes) pred ⌝ }
     requires { ⌜ NodeRoom (now nodes) node ⌝ }
-    ensures { λ r. ⌜ now (nodes .exit) ≡ withNext (withNode (now (nodes .entry)) node key version top (next (now (nodes .entry)) 0 pred)) 0 pred node ⌝ }
+    ensures { λ r. ⌜ now (nodes .exit)
+        ≡ withNext (withNode (now (nodes .entry)) node key version top (next (now (nodes .entry)) 0 pred)) 0 pred node ⌝ }
 {
     let next = next_at(nodes, 0, pred);
     write_node(nodes, node, key, version, top, next);
@@ -135,7 +139,8 @@ fn add_node(
     requires { ⌜ NodeRoom (now nodes) (c .pred) ⌝ }
     requires { ⌜ NodeSpare (now nodes) (counts .nodes) ⌝ }
     requires { ⌜ VersionSpare (now versions) (counts .versions) ⌝ }
-    ensures { λ r. ⌜ memory (now (nodes .exit)) (now (versions .exit)) r ≡ addNode call c (memory (now (nodes .entry)) (now (versions .entry)) counts) ⌝ }
+    ensures { λ r. ⌜ memory (now (nodes .exit)) (now (versions .exit)) r
+        ≡ addNode call c (memory (now (nodes .entry)) (now (versions .entry)) counts) ⌝ }
 {
     let node = counts.nodes + 1;
     let i = counts.versions + 1;
@@ -156,7 +161,8 @@ pub fn make(
 ) -> Turned
     requires { ⌜ Ready (now nodes) (counts .nodes) c ⌝ }
     requires { ⌜ Lent (now nodes) (now versions) counts ⌝ }
-    ensures { λ r. ⌜ leaves r (now (nodes .exit)) (now (versions .exit)) ≡ makeOf call c (memory (now (nodes .entry)) (now (versions .entry)) counts) ⌝ }
+    ensures { λ r. ⌜ leaves r (now (nodes .exit)) (now (versions .exit))
+        ≡ makeOf call c (memory (now (nodes .entry)) (now (versions .entry)) counts) ⌝ }
 {
     if nodes_full(nodes, counts.nodes) {
         return keep(c, Answer::KeysFull, counts);
@@ -180,7 +186,8 @@ pub fn make(
 // The new node behind the predecessor at the cursor's level.
 pub fn link(c: Cursor, used: u32, nodes: &mut [u32]) -> Move
     requires { ⌜ Ready (now nodes) used c ⌝ }
-    ensures { λ r. ⌜ ((versions : List ℕ) (n : ℕ) → moved (nodesIn (now (nodes .exit)) used versions n) r ≡ linkOf c (nodesIn (now (nodes .entry)) used versions n)) ⌝ }
+    ensures { λ r. ⌜ ((versions : List ℕ) (n : ℕ) → moved (nodesIn (now (nodes .exit)) used versions n) r
+        ≡ linkOf c (nodesIn (now (nodes .entry)) used versions n)) ⌝ }
 {
     let made = c.made;
     let in_use = (1 <= made) & (made <= used);
