@@ -5,18 +5,25 @@ use mathlib.Core.List.{List, [], _∷_, _++_}
 use mathlib.Core.Path.{_≡_, sym, ap, _∙_}
 use native.Mathlib.Omega.{arith}
 use native.Mathlib.Nat.{suc-add}
-use lib.ListN.{length, getD, set}
+use lib.ListN.{length, set}
 use lib.Seq.{sets}
 use Rattle.model.specs.declared.types.Cursor.{Cursor}
 use Rattle.model.specs.declared.types.Answer.{Answer}
 use Rattle.model.specs.declared.types.Move.the-variants.{Wait, Go, Note, Commit}
 use Rattle.model.specs.Calls.{processAfter}
-use Rattle.process.specs.ProcessWords.{sizes, callWords, cursorWords, effectWords, processWords, processFrom, knownProcess}
+use Rattle.process.specs.ProcessWords.{sizes, processOffsets, callWords, cursorWords, effectWords, processWords, processFrom, knownProcess}
 use Rattle.process.proofs.RoundTrip.{process-back}
 
 set-behind : (p q : List ℕ) (l v : ℕ) → set (p ++ q) (length p + l) v ≡ p ++ set q l v
 set-behind [] q l v = let e : 0 + l ≡ l = omega arith in ap (λ k. set q k v) e
 set-behind (x ∷ p) q l v = ap (λ k. set (x ∷ p ++ q) k v) (suc-add (length p) l) ∙ ap (λ r. x ∷ r) (set-behind p q l v)
+
+-- the words with a cursor written over, and with a node remembered at a level
+abbrev pub putCursor : List ℕ → Cursor → List ℕ
+putCursor w c = sets w (processOffsets .phase) (cursorWords c)
+
+abbrev pub putPred : List ℕ → (level pred : ℕ) → List ℕ
+putPred w l x = set w (processOffsets .preds + l) x
 
 module _ (w : List ℕ) (long : length w ≡ sizes .process) (known : knownProcess w ≡ true) (tick : ℕ) where
   same : w ≡ processWords (processFrom w)
@@ -26,21 +33,22 @@ module _ (w : List ℕ) (long : length w ≡ sizes .process) (known : knownProce
   unfolding processAfter
   stays-waiting = same
 
-  pub goes : (c : Cursor) → sets w 7 (cursorWords c) ≡ processWords (processAfter tick (processFrom w) (Go c))
+  pub goes : (c : Cursor) → putCursor w c ≡ processWords (processAfter tick (processFrom w) (Go c))
   unfolding processAfter
-  goes c = ap (λ w. sets w 7 (cursorWords c)) same
+  goes c = ap (λ w. putCursor w c) same
 
   pub commits : (c : Cursor) (a : Answer)
-      → sets (sets w 7 (cursorWords c)) 11 (effectWords (record { answer = a; tick = tick })) ≡ processWords (processAfter tick
-      (processFrom w) (Commit c a))
+      → sets (putCursor w c) (processOffsets .answer) (effectWords (record { answer = a; tick = tick }))
+      ≡ processWords (processAfter tick (processFrom w) (Commit c a))
   unfolding processAfter
-  commits c a = ap (λ w. sets (sets w 7 (cursorWords c)) 11 (effectWords (record { answer = a; tick = tick }))) same
+  commits c a = ap (λ w. sets (putCursor w c) (processOffsets .answer) (effectWords (record { answer = a; tick = tick }))) same
 
   pub notes : (c : Cursor)
-      → sets (set w (13 + getD w 8 0) (getD w 9 0)) 7 (cursorWords c) ≡ processWords (processAfter tick (processFrom w) (Note c))
+      → putCursor (putPred w (processFrom w .cursor .level) (processFrom w .cursor .pred)) c
+      ≡ processWords (processAfter tick (processFrom w) (Note c))
   unfolding processAfter
   notes c =
       let p = processFrom w in
-      ap (λ v. sets (set v (13 + getD w 8 0) (getD w 9 0)) 7 (cursorWords c)) same
-      ∙ ap (λ v. sets v 7 (cursorWords c)) (set-behind (callWords (p .call) ++ cursorWords (p .cursor) ++ effectWords (p .effect))
-      (p .preds) (getD w 8 0) (getD w 9 0))
+      ap (λ v. putCursor (putPred v (p .cursor .level) (p .cursor .pred)) c) same
+      ∙ ap (λ v. putCursor v c) (set-behind (callWords (p .call) ++ cursorWords (p .cursor) ++ effectWords (p .effect))
+      (p .preds) (p .cursor .level) (p .cursor .pred))

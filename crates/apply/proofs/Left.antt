@@ -15,10 +15,10 @@ use Rattle.model.specs.declared.types.Refusal.the-variants.{Damaged}
 use Rattle.model.specs.declared.types.Stepping.{Stepping}
 use Rattle.model.specs.Calls.{processAfter, outcomeOf, tallyAfter}
 use Rattle.model.specs.Phases.{refuses}
-use Rattle.process.specs.ProcessWords.{sizes, cursorWords, processWords, processFrom, knownProcess}
+use Rattle.process.specs.ProcessWords.{sizes, processWords, processFrom, knownProcess}
 use Rattle.process.proofs.RoundTrip.{process-back}
-use Rattle.layout.proofs.Laws.{putEvent}
-use Rattle.apply.proofs.Applied.{goes}
+use Rattle.layout.specs.StateWords.{putEvent}
+use Rattle.apply.proofs.Applied.{putCursor, goes}
 use Rattle.layout.proofs.Known.{part-is, part-long}
 use Rattle.layout.proofs.Whole.{put-part}
 use Rattle.apply.specs.Leave.{leaveIn}
@@ -65,7 +65,7 @@ module _ (w tally : List ℕ) (at tick : ℕ) (counts : Counts) where
           left-moved Wait lentPart u tally (Stepping.Waited tick) refl (sym (process-back lentPart long own)) long
           (put ∙ ap (λ r. putEvent r tick counts) (sym (put-same at (at + sizes .process - at) w))) refl refl
 
-      pub left-goes : (v : Move) (c : Cursor) (part u : List ℕ) → v ≡ Go c → part ≡ sets lentPart 7 (cursorWords c)
+      pub left-goes : (v : Move) (c : Cursor) (part u : List ℕ) → v ≡ Go c → part ≡ putCursor lentPart c
           → length part ≡ sizes .process → u ≡ putEvent (putMid at (at + sizes .process - at) w part) tick counts
           → record { outcome = Stepping.Moved tick; words = u; tally = tally } ≡ leaveIn tick counts v w at tally
       unfolding outcomeOf tallyAfter

@@ -1,7 +1,7 @@
 -- What a move leaves of the words and of the tally, and what the step answers.
 use Prim.Native.Nat.{ℕ}
 use mathlib.Core.List.{List}
-use lib.ListN.{set, take, drop}
+use lib.ListN.{take, drop}
 use lib.Seq.{sets}
 use Rattle.model.specs.declared.types.Counts.{Counts}
 use Rattle.model.specs.declared.types.Move.{Move}
@@ -11,6 +11,7 @@ use Rattle.model.specs.Choice.{if_then_else_}
 use Rattle.model.specs.Calls.{processAfter, outcomeOf, tallyAfter}
 use Rattle.model.specs.Phases.{refuses}
 use Rattle.process.specs.ProcessWords.{sizes, processWords, processFrom}
+use Rattle.layout.specs.StateWords.{putEvent}
 
 pub record LeftIn : Type 0 where
   pub outcome : Stepping
@@ -23,7 +24,7 @@ standing w at = processFrom (take (sizes .process) (drop at w))
 
 -- the words after an event: that process, the events and the counts are written over
 abbrev pub evented : (words : List ℕ) (at tick : ℕ) → Counts → Process → List ℕ
-evented w at tick counts p = set (set (set (sets w at (processWords p)) 4 tick) 7 (counts .nodes)) 8 (counts .versions)
+evented w at tick counts p = putEvent (sets w at (processWords p)) tick counts
 
 -- a refused move is no event
 abbrev pub leaveIn : (tick : ℕ) → Counts → Move → (words : List ℕ) (at : ℕ) (tally : List ℕ) → LeftIn

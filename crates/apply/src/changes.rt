@@ -10,6 +10,7 @@ ghost use Rattle.model.specs.declared.types.Move.the-variants.{Note, Commit};
 use model::types::Answer;
 use model::types::Cursor;
 use model::types::Effect;
+use process::types::ProcessOffsets;
 use process::words::put_cursor;
 use process::words::put_effect;
 
@@ -20,8 +21,8 @@ pub fn apply_note(w: &mut [u32], cursor: Cursor)
     requires { ⌜ processFrom (now w) .cursor .level ≤ topLevel ⌝ }
     ensures { λ r. ⌜ ((tick : ℕ) → now (w .exit) ≡ processWords (processAfter tick (processFrom (now (w .entry))) (Note cursor))) ⌝ }
 {
-    let at = 13 + w[8] as usize;
-    w[at] = w[9];
+    let at = ProcessOffsets::PREDS + w[ProcessOffsets::LEVEL] as usize;
+    w[at] = w[ProcessOffsets::PRED];
     let phase = cursor.phase;
     put_cursor(w, phase, cursor.level, cursor.pred, cursor.made);
 }

@@ -4,7 +4,7 @@ use mathlib.Core.Bool.{Bool, true, false}
 use mathlib.Core.List.{List, [], _∷_}
 use mathlib.Core.Path.{_≡_, refl, sym, ap, _∙_}
 use native.Mathlib.Omega.{arith}
-use lib.Dec.{eqb, ltb}
+use lib.Dec.{eqb, leb}
 use lib.ListN.{length, getD, take, drop, length-append}
 use lib.Seq.{take-at, drop-at}
 use Rattle.model.specs.declared.types.Process.{Process}
@@ -67,7 +67,7 @@ all-long (p ∷ ps) six =
 -- ---- the state: eight processes, each with a node at each level, as every value of its type has
 
 module _ (s : State) (eight : length (s .process) ≡ limits .processes) (six : Remembers (s .process)) where
-  opened-from : (b : Bool) → (eqb (bit b) 1 ≡ b) × (ltb (bit b) 2 ≡ true)
+  opened-from : (b : Bool) → (eqb (bit b) (bit true) ≡ b) × (leb (bit b) (bit true) ≡ true)
   opened-from true = (refl, refl)
   opened-from false = (refl, refl)
 

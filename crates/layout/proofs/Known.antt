@@ -4,13 +4,14 @@ use mathlib.Core.Bool.{Bool, true, false, _&&_, and-eq-true-iff}
 use mathlib.Core.List.{List, []}
 use mathlib.Core.Path.{_≡_, sym, ap, _∙_}
 use native.Mathlib.Omega.{arith}
-use lib.Dec.{eqb, ltb}
+use lib.Dec.{eqb, leb}
 use lib.ListN.{length, getD, take, drop, length-drop, drop-of-length-le}
 use lib.Seq.{length-take-le, drop-drop}
-use borrow.Author.Tests.{eqb-true, ltb-true}
+use borrow.Author.Tests.{eqb-true, eq-eqb, leb-true}
 use Rattle.model.specs.Layout.{limits}
 use Rattle.model.specs.Choice.{if_then_else_}
 use Rattle.process.specs.ProcessWords.{sizes, knownProcess}
+use Rattle.layout.specs.Head.{bit, headerOffsets, headOffsets, headAt}
 use Rattle.layout.specs.StateWords.{allKnown, knownHead, isState, startOf, part, isStateAt}
 
 -- the words of the process at a position, as a part that ends where the next begins
@@ -41,13 +42,26 @@ none-left w left e = rw e
 
 -- ---- the head, then one process or all
 
-pub head-long : (w : List ℕ) → knownHead w ≡ true → length w ≡ sizes .state
-head-long w h =
-    let a = and-eq-true-iff (eqb (length w) (sizes .state) && eqb (getD w 0 0) (sizes .version)) (ltb (getD w 1 0) 2) .0 h in
-    eqb-true _ _ (and-eq-true-iff (eqb (length w) (sizes .state)) (eqb (getD w 0 0) (sizes .version)) .0 (a .0) .0)
+-- as many words as a state has, of this layout: the word that says whether it is open decides
+pub head-by : (w : List ℕ) → length w ≡ sizes .state → getD w (headOffsets .version) 0 ≡ sizes .version
+    → leb (getD w (headAt (headerOffsets .opened)) 0) (bit true) ≡ knownHead w
+head-by w long version = simp (eq-eqb _ _ long, eq-eqb _ _ version)
 
-pub head-open : (w : List ℕ) → knownHead w ≡ true → getD w 1 0 < 2
-head-open w h = ltb-true _ _ (and-eq-true-iff (eqb (length w) (sizes .state) && eqb (getD w 0 0) (sizes .version)) (ltb (getD w 1 0) 2) .0 h .1)
+module _ (w : List ℕ) (h : knownHead w ≡ true) where
+  abbrev long : Bool
+  long = eqb (length w) (sizes .state)
+
+  abbrev version : Bool
+  version = eqb (getD w (headOffsets .version) 0) (sizes .version)
+
+  abbrev opened : Bool
+  opened = leb (getD w (headAt (headerOffsets .opened)) 0) (bit true)
+
+  pub head-long : length w ≡ sizes .state
+  head-long = eqb-true _ _ (and-eq-true-iff long version .0 (and-eq-true-iff (long && version) opened .0 h .0) .0)
+
+  pub head-open : getD w (headAt (headerOffsets .opened)) 0 ≤ bit true
+  head-open = leb-true _ _ (and-eq-true-iff (long && version) opened .0 h .1)
 
 module _ (w : List ℕ) (i : ℕ) (b : Bool) (head : b ≡ knownHead w) where
   pub no-head : b ≡ false → (false ≡ isState w) × (false ≡ isStateAt w i)

@@ -4,18 +4,18 @@ use mathlib.Core.Bool.{Bool, true, false, _&&_, and-eq-true-iff}
 use mathlib.Core.List.{List, [], _∷_, _++_, append-assoc}
 use mathlib.Core.Path.{_≡_, refl, sym, ap, _∙_}
 use native.Mathlib.Omega.{arith}
-use lib.Dec.{eqb, ltb}
+use lib.Dec.{eqb, leb}
 use lib.ListN.{length, getD, set, take, drop, length-drop, take-append-drop}
 use lib.Seq.{length-take-le, drop-drop, take-add}
-use borrow.Author.Tests.{ltb-true, eqb-true}
+use borrow.Author.Tests.{leb-true, eqb-true}
 use Rattle.model.specs.declared.types.Counts.{Counts}
 use Rattle.model.specs.declared.types.Process.{Process}
 use Rattle.model.specs.Choice.{if_then_else_}
 use Rattle.model.specs.Layout.{limits}
 use Rattle.model.specs.State.{noProcess, processAt, withEvent}
 use Rattle.process.specs.ProcessWords.{sizes, processWords, processFrom, knownProcess}
-use Rattle.layout.specs.StateWords.{allWords, stateWords, allFrom, stateFrom, allKnown, isState, startOf, part}
-use Rattle.layout.specs.Head.{bit}
+use Rattle.layout.specs.StateWords.{allWords, stateWords, allFrom, stateFrom, allKnown, isState, startOf, part, putEvent}
+use Rattle.layout.specs.Head.{bit, headerWords, headerOffsets, headOffsets, headAt}
 use Rattle.process.proofs.Heads.{heads, heads-are}
 use Rattle.process.proofs.RoundTrip.{process-back, below}
 
@@ -50,31 +50,34 @@ all-back (suc n) w h k =
 
 -- ---- the state
 
-pub bit-back : (n : ℕ) → n < 2 → bit (eqb n 1) ≡ n
-bit-back n h = eqb-true _ _ (below 2 (λ n. eqb (bit (eqb n 1)) n) refl n h)
+pub bit-back : (n : ℕ) → n ≤ bit true → bit (eqb n (bit true)) ≡ n
+bit-back n h = eqb-true _ _ (below (suc (bit true)) (λ n. eqb (bit (eqb n (bit true))) n) refl n (omega (arith, h)))
 
 -- what the test tells
 pub record Facts (w : List ℕ) : Type 0 where
   pub long : length w ≡ sizes .state
-  pub version : getD w 0 0 ≡ sizes .version
-  pub opened : getD w 1 0 < 2
-  pub known : allKnown 8 (drop (sizes .head) w) ≡ true
+  pub version : getD w (headOffsets .version) 0 ≡ sizes .version
+  pub opened : getD w (headAt (headerOffsets .opened)) 0 ≤ bit true
+  pub known : allKnown (limits .processes) (drop (sizes .head) w) ≡ true
 
 pub state-facts : (w : List ℕ) → isState w ≡ true → Facts w
 unfolding isState
 state-facts w k =
-    let a = and-eq-true-iff (eqb (length w) (sizes .state) && eqb (getD w 0 0) (sizes .version) && ltb (getD w 1 0) 2) (allKnown 8 (drop (sizes .head) w)) .0 k in
-    let b = and-eq-true-iff (eqb (length w) (sizes .state) && eqb (getD w 0 0) (sizes .version)) (ltb (getD w 1 0) 2) .0 (a .0) in
-    let c = and-eq-true-iff (eqb (length w) (sizes .state)) (eqb (getD w 0 0) (sizes .version)) .0 (b .0) in
-    record { long = eqb-true _ _ (c .0); version = eqb-true _ _ (c .1); opened = ltb-true _ _ (b .1); known = a .1 }
+    let long = eqb (length w) (sizes .state) in
+    let version = eqb (getD w (headOffsets .version) 0) (sizes .version) in
+    let opened = leb (getD w (headAt (headerOffsets .opened)) 0) (bit true) in
+    let a = and-eq-true-iff (long && version && opened) (allKnown (limits .processes) (drop (sizes .head) w)) .0 k in
+    let b = and-eq-true-iff (long && version) opened .0 (a .0) in
+    let c = and-eq-true-iff long version .0 (b .0) in
+    record { long = eqb-true _ _ (c .0); version = eqb-true _ _ (c .1); opened = leb-true _ _ (b .1); known = a .1 }
 
 pub state-back : (w : List ℕ) → isState w ≡ true → stateWords (stateFrom w) ≡ w
 unfolding stateWords stateFrom
 state-back w k =
     let f = state-facts w k in
-    let left : sizes .process * 8 ≡ length (drop (sizes .head) w) = rw length-drop (omega (arith, f .long)) in
-    simp (bit-back (getD w 1 0) (f .opened), all-back 8 (drop (sizes .head) w) left (f .known))
-    (ap (λ v. v ∷ heads 8 1 w ++ drop (sizes .head) w) (sym (f .version)) ∙ sym (heads-are (sizes .head) 0 w (omega (arith, f .long))))
+    let left : sizes .process * limits .processes ≡ length (drop (sizes .head) w) = rw length-drop (omega (arith, f .long)) in
+    simp (bit-back (getD w (headAt (headerOffsets .opened)) 0) (f .opened), all-back (limits .processes) (drop (sizes .head) w) left (f .known))
+    (ap (λ v. v ∷ heads headerWords (headOffsets .header) w ++ drop (sizes .head) w) (sym (f .version)) ∙ sym (heads-are (sizes .head) 0 w (omega (arith, f .long))))
 
 -- ---- one process of the state
 
@@ -90,7 +93,7 @@ all-at (suc n) (suc i) w d h =
 
 pub process-at : (w : List ℕ) (i : ℕ) → i < limits .processes → processAt (stateFrom w) i ≡ processFrom (part w i)
 unfolding stateFrom
-process-at w i h = all-at 8 i (drop (sizes .head) w) noProcess h ∙ ap (λ r. processFrom (take (sizes .process) r)) (drop-drop (sizes .process * i) (sizes .head) w)
+process-at w i h = all-at (limits .processes) i (drop (sizes .head) w) noProcess h ∙ ap (λ r. processFrom (take (sizes .process) r)) (drop-drop (sizes .process * i) (sizes .head) w)
 
 -- another process in its place
 all-set : (n i : ℕ) (w : List ℕ) (p : Process) → i < n → sizes .process * n ≡ length w → allKnown n w ≡ true
@@ -110,12 +113,9 @@ all-set (suc n) (suc i) w p h l k =
 
 -- ---- an event
 
--- the words with another process at a place, and the counts that its event leaves
+-- the words with another process at a place
 abbrev pub putProcess : (w : List ℕ) (i : ℕ) (part : List ℕ) → List ℕ
 putProcess w i part = take (startOf i) w ++ (part ++ drop (startOf i + sizes .process) w)
-
-abbrev pub putEvent : (w : List ℕ) (tick : ℕ) → Counts → List ℕ
-putEvent w tick counts = set (set (set w 4 tick) 7 (counts .nodes)) 8 (counts .versions)
 
 -- the head and what lies behind it
 behind : (w : List ℕ) (i : ℕ) (part : List ℕ) → sizes .head ≤ length w
@@ -134,6 +134,6 @@ pub event-words : (w : List ℕ) (i : ℕ) (p : Process) (counts : Counts) → i
 unfolding stateFrom stateWords
 event-words w i p counts k h =
     let f = state-facts w k in
-    let left : sizes .process * 8 ≡ length (drop (sizes .head) w) = rw length-drop (omega (arith, f .long)) in
-    ap (λ v. putEvent v (getD w 4 0 + 1) counts) (behind w i (processWords p) (omega (arith, f .long)))
-    ∙ simp (f .version, bit-back (getD w 1 0) (f .opened), all-set 8 i (drop (sizes .head) w) p h left (f .known))
+    let left : sizes .process * limits .processes ≡ length (drop (sizes .head) w) = rw length-drop (omega (arith, f .long)) in
+    ap (λ v. putEvent v (getD w (headAt (headerOffsets .events)) 0 + 1) counts) (behind w i (processWords p) (omega (arith, f .long)))
+    ∙ simp (f .version, bit-back (getD w (headAt (headerOffsets .opened)) 0) (f .opened), all-set (limits .processes) i (drop (sizes .head) w) p h left (f .known))

@@ -10,6 +10,7 @@ use Rattle.model.specs.declared.types.Process.{Process}
 use Rattle.model.specs.declared.types.State.{State}
 use Rattle.model.specs.Layout.{limits}
 use Rattle.process.specs.ProcessWords.{sizes, processWords, processFrom}
+use Rattle.layout.specs.Head.{headOffsets}
 use Rattle.layout.specs.StateWords.{headWords, allWords, allFrom, startOf}
 
 -- ---- reading
@@ -82,5 +83,5 @@ module _ (front : List ℕ) (ps : List Process) (eight : length ps ≡ limits .p
       ∙ ap (λ r. front ++ allWords r) (take-all i ps (omega (arith, h, eight)))
 
 -- the words that the head is written over begin with it
-pub head-front : (s : State) (w : List ℕ) → length w ≡ sizes .state → take (sizes .head) (sets w 0 (headWords s)) ≡ headWords s
-head-front s w h = ap (take (sizes .head)) (sets-eq (headWords s) w 0 (omega (arith, h)))
+pub head-front : (s : State) (w : List ℕ) → length w ≡ sizes .state → take (sizes .head) (sets w (headOffsets .version) (headWords s)) ≡ headWords s
+head-front s w h = ap (take (sizes .head)) (sets-eq (headWords s) w (headOffsets .version) (omega (arith, h)))

@@ -1,5 +1,5 @@
 -- What is written in place at an event: nothing where nothing happened, else the words of the state after it.
-use Prim.Native.Nat.{ℕ, zero, suc, _+_, _*_, _≤_, _<_}
+use Prim.Native.Nat.{ℕ, zero, suc, _+_, _*_, _-_, _≤_, _<_}
 use mathlib.Core.Bool.{Bool, true, false, and-eq-true-iff}
 use mathlib.Core.List.{List, [], _∷_, _++_, append-assoc}
 use mathlib.Core.Path.{_≡_, refl, sym, ap, _∙_}
@@ -12,12 +12,12 @@ use Rattle.model.specs.declared.types.Counts.{Counts}
 use Rattle.model.specs.declared.types.Process.{Process}
 use Rattle.model.specs.Layout.{limits}
 use Rattle.model.specs.State.{noProcess, processAt, withEvent}
-use Rattle.layout.specs.Head.{headerWords, headerOf}
+use Rattle.layout.specs.Head.{headerWords, headerOffsets, headerOf, headOffsets, headAt}
 use Rattle.process.specs.ProcessWords.{sizes, processWords, knownProcess}
-use Rattle.layout.specs.StateWords.{stateWords, allFrom, stateFrom, allKnown, knownHead, isState, startOf, part, isStateAt, written}
+use Rattle.layout.specs.StateWords.{stateWords, allFrom, stateFrom, allKnown, knownHead, isState, startOf, part, isStateAt, putEvent, written}
 use Rattle.layout.proofs.Known.{head-long, head-open, by-one, by-none}
 use Rattle.process.proofs.Heads.{heads, heads-are}
-use Rattle.layout.proofs.Laws.{bit-back, process-at, known-rest, putProcess, putEvent, event-words}
+use Rattle.layout.proofs.Laws.{bit-back, process-at, known-rest, putProcess, event-words}
 use Rattle.process.proofs.RoundTrip.{process-back}
 
 -- ---- nothing happened
@@ -43,34 +43,41 @@ unfolding isStateAt
 part-facts w i k = let a = and-eq-true-iff (knownHead w) (knownProcess (part w i)) .0 k in (head-long w (a .0), a .1)
 
 pub process-same : (w : List ℕ) (i : ℕ) → isStateAt w i ≡ true → sets w (startOf i) (processWords (processAt (stateFrom w) i)) ≡ w
-process-same w i k = cases (ltb i 8) refl
+process-same w i k = cases (ltb i (limits .processes)) refl
   where
-    cases : (b : Bool) → ltb i 8 ≡ b → sets w (startOf i) (processWords (processAt (stateFrom w) i)) ≡ w
+    cases : (b : Bool) → ltb i (limits .processes) ≡ b → sets w (startOf i) (processWords (processAt (stateFrom w) i)) ≡ w
     cases true e =
         let f = part-facts w i k in
-        let h = ltb-true i 8 e in
+        let h = ltb-true i (limits .processes) e in
         let fits : startOf i + sizes .process ≤ length w = omega (arith, h, f .0) in
         let long : length (part w i) ≡ sizes .process = length-take-le (sizes .process) (drop (startOf i) w) (rw length-drop (omega (arith, fits))) in
         ap (λ p. sets w (startOf i) (processWords p)) (process-at w i h)
         ∙ ap (sets w (startOf i)) (process-back (part w i) long (f .1))
         ∙ sets-part w (startOf i) fits
-    cases false e = sets-past (processWords (processAt (stateFrom w) i)) w (startOf i) (omega (arith, ltb-false i 8 e, part-facts w i k .0))
+    cases false e = sets-past (processWords (processAt (stateFrom w) i)) w (startOf i) (omega (arith, ltb-false i (limits .processes) e, part-facts w i k .0))
 
 pub written-same : (w : List ℕ) (i : ℕ) → isStateAt w i ≡ true → written w i (stateFrom w) ≡ w
 unfolding written stateFrom
-written-same w i k = simp (process-same w i k, set-getD w 4 0, set-getD w 7 0, set-getD w 8 0)
+written-same w i k =
+    simp (
+      process-same w i k,
+      set-getD w (headAt (headerOffsets .events)) 0,
+      set-getD w (headAt (headerOffsets .nodes)) 0,
+      set-getD w (headAt (headerOffsets .versions)) 0,
+    )
 
 -- ---- the head
 
 -- the header of the state stands behind the first word
-pub header-at : (w : List ℕ) (i : ℕ) → isStateAt w i ≡ true → headerOf (stateFrom w) ≡ take headerWords (drop 1 w)
+pub header-at : (w : List ℕ) (i : ℕ) → isStateAt w i ≡ true → headerOf (stateFrom w) ≡ take headerWords (drop (headOffsets .header) w)
 unfolding isStateAt stateFrom
 header-at w i k =
     let head = and-eq-true-iff (knownHead w) (knownProcess (part w i)) .0 k .0 in
-    let fits : 1 + 8 ≤ length w = omega (arith, head-long w head) in
-    ap (λ b. b ∷ heads 7 2 w) (bit-back (getD w 1 0) (head-open w head)) ∙ sym (ap (take 8) (heads-are 8 1 w fits))
+    let fits : headOffsets .header + headerWords ≤ length w = omega (arith, head-long w head) in
+    ap (λ b. b ∷ heads (headerWords - 1) (headAt (headerOffsets .processes)) w) (bit-back (getD w (headAt (headerOffsets .opened)) 0) (head-open w head))
+    ∙ sym (ap (take headerWords) (heads-are headerWords (headOffsets .header) w fits))
 
-pub events-at : (w : List ℕ) → getD w 4 0 ≡ stateFrom w .events
+pub events-at : (w : List ℕ) → getD w (headAt (headerOffsets .events)) 0 ≡ stateFrom w .events
 unfolding stateFrom
 events-at w = refl
 
@@ -81,7 +88,7 @@ pub written-over : (w : List ℕ) (i : ℕ) (p : Process) (counts : Counts) → 
 unfolding written stateFrom allFrom
 written-over w i p counts h =
     let found : processAt (withEvent (stateFrom w) i counts p) i ≡ p = getD-set-same (stateFrom w .process) i p noProcess h in
-    ap (λ q. putEvent (sets w (startOf i) (processWords q)) (getD w 4 0 + 1) counts) (sym found)
+    ap (λ q. putEvent (sets w (startOf i) (processWords q)) (getD w (headAt (headerOffsets .events)) 0 + 1) counts) (sym found)
 
 written-event : (w : List ℕ) (i : ℕ) (p : Process) (counts : Counts) → isStateAt w i ≡ true → i < limits .processes
     → length (processWords p) ≡ sizes .process
@@ -108,17 +115,17 @@ known-at (suc n) (suc i) w h k =
 -- words that are a state are one at each of its processes, and at any other number
 pub state-at : (w : List ℕ) (i : ℕ) → isState w ≡ true → isStateAt w i ≡ true
 unfolding isState
-state-at w i k = cases (ltb i 8) refl
+state-at w i k = cases (ltb i (limits .processes)) refl
   where
     head : knownHead w ≡ true
-    head = and-eq-true-iff (knownHead w) (allKnown 8 (drop (sizes .head) w)) .0 k .0
+    head = and-eq-true-iff (knownHead w) (allKnown (limits .processes) (drop (sizes .head) w)) .0 k .0
 
-    cases : (b : Bool) → ltb i 8 ≡ b → isStateAt w i ≡ true
+    cases : (b : Bool) → ltb i (limits .processes) ≡ b → isStateAt w i ≡ true
     cases true e =
-        let all = and-eq-true-iff (knownHead w) (allKnown 8 (drop (sizes .head) w)) .0 k .1 in
+        let all = and-eq-true-iff (knownHead w) (allKnown (limits .processes) (drop (sizes .head) w)) .0 k .1 in
         sym (by-one w i (knownHead w) refl head)
-        ∙ ap (λ r. knownProcess (take (sizes .process) r)) (sym (drop-drop (sizes .process * i) (sizes .head) w)) ∙ known-at 8 i (drop (sizes .head) w) (ltb-true i 8 e) all
-    cases false e = sym (by-none w i (knownHead w) refl head (ltb-false i 8 e))
+        ∙ ap (λ r. knownProcess (take (sizes .process) r)) (sym (drop-drop (sizes .process * i) (sizes .head) w)) ∙ known-at (limits .processes) i (drop (sizes .head) w) (ltb-true i (limits .processes) e) all
+    cases false e = sym (by-none w i (knownHead w) refl head (ltb-false i (limits .processes) e))
 
 -- there the words written are the whole state encoded
 pub written-state : (w : List ℕ) (i : ℕ) (p : Process) (counts : Counts) → isState w ≡ true → i < limits .processes

@@ -1,17 +1,17 @@
--- The state as words, and words as a state. Word 0 is the layout's own number; then whether the store is open, processes,
--- limit, events, lengths of both tables, nodes and versions in use; then eight processes of nineteen words each.
+-- The state as words, and words as a state: the head, then eight processes of nineteen words each.
 use Prim.Native.Nat.{ℕ, zero, suc, _+_, _*_}
 use mathlib.Core.Bool.{Bool, true, false, _&&_}
 use mathlib.Core.List.{List, [], _∷_, _++_}
-use lib.Dec.{eqb, ltb}
+use lib.Dec.{eqb, leb}
 use lib.ListN.{length, getD, set, take, drop}
 use lib.Seq.{sets}
+use Rattle.model.specs.declared.types.Counts.{Counts}
 use Rattle.model.specs.declared.types.State.{State}
 use Rattle.model.specs.declared.types.Process.{Process}
 use Rattle.model.specs.Choice.{if_then_else_}
 use Rattle.model.specs.Layout.{limits}
 use Rattle.model.specs.State.{processAt}
-use Rattle.layout.specs.Head.{headerOf}
+use Rattle.layout.specs.Head.{bit, headerOffsets, headerOf, headOffsets, headAt}
 use Rattle.process.specs.ProcessWords.{sizes, processWords, processFrom, knownProcess}
 
 -- ---- encode
@@ -34,12 +34,18 @@ allFrom (suc n) w = processFrom (take (sizes .process) w) ∷ allFrom n (drop (s
 
 unfoldable pub stateFrom : List ℕ → State
 stateFrom w = record {
-  opened = eqb (getD w 1 0) 1;
-  processes = getD w 2 0;
-  limit = getD w 3 0;
-  events = getD w 4 0;
-  lengths = record { nodes = getD w 5 0; versions = getD w 6 0 };
-  counts = record { nodes = getD w 7 0; versions = getD w 8 0 };
+  opened = eqb (getD w (headAt (headerOffsets .opened)) 0) (bit true);
+  processes = getD w (headAt (headerOffsets .processes)) 0;
+  limit = getD w (headAt (headerOffsets .limit)) 0;
+  events = getD w (headAt (headerOffsets .events)) 0;
+  lengths = record {
+    nodes = getD w (headAt (headerOffsets .nodelength)) 0;
+    versions = getD w (headAt (headerOffsets .versionlength)) 0;
+  };
+  counts = record {
+    nodes = getD w (headAt (headerOffsets .nodes)) 0;
+    versions = getD w (headAt (headerOffsets .versions)) 0;
+  };
   process = allFrom (limits .processes) (drop (sizes .head) w);
 }
 
@@ -51,7 +57,9 @@ allKnown (suc n) w = if knownProcess (take (sizes .process) w) then allKnown n (
 
 -- the layout's own number in a state of the right length, open or not
 abbrev pub knownHead : List ℕ → Bool
-knownHead w = eqb (length w) (sizes .state) && eqb (getD w 0 0) (sizes .version) && ltb (getD w 1 0) 2
+knownHead w =
+    eqb (length w) (sizes .state) && eqb (getD w (headOffsets .version) 0) (sizes .version)
+    && leb (getD w (headAt (headerOffsets .opened)) 0) (bit true)
 
 unfoldable pub isState : List ℕ → Bool
 isState w = knownHead w && allKnown (limits .processes) (drop (sizes .head) w)
@@ -69,7 +77,12 @@ part w i = take (sizes .process) (drop (startOf i) w)
 unfoldable pub isStateAt : List ℕ → ℕ → Bool
 isStateAt w i = knownHead w && knownProcess (part w i)
 
--- the words after an event of process i: its events, counts and that process are written over
+-- an event's tick and the counts that it leaves, written over
+abbrev pub putEvent : List ℕ → (tick : ℕ) → Counts → List ℕ
+putEvent w tick counts =
+    set (set (set w (headAt (headerOffsets .events)) tick) (headAt (headerOffsets .nodes)) (counts .nodes))
+    (headAt (headerOffsets .versions)) (counts .versions)
+
+-- the words after an event of process i: that process, its events and counts are written over
 unfoldable pub written : List ℕ → ℕ → State → List ℕ
-written w i s =
-    set (set (set (sets w (startOf i) (processWords (processAt s i))) 4 (s .events)) 7 (s .counts .nodes)) 8 (s .counts .versions)
+written w i s = putEvent (sets w (startOf i) (processWords (processAt s i))) (s .events) (s .counts)

@@ -1,12 +1,15 @@
 // The whole state in its words.
 ghost use mathlib.Core.Path.{_≡_};
 ghost use Prim.Native.Nat.{_+_};
-ghost use lib.ListN.{length, take, drop, set};
+ghost use lib.ListN.{length, take, drop};
 ghost use mathlib.Core.List.{_++_};
 ghost use Rattle.model.specs.Layout.{limits};
 ghost use Rattle.process.specs.ProcessWords.{sizes};
-ghost use Rattle.layout.specs.StateWords.{headWords, allWords, stateWords, allFrom, stateFrom, allKnown, knownHead, isState, isStateAt};
+ghost use Rattle.layout.specs.Head.{headOffsets};
+ghost use Rattle.layout.specs.StateWords.{headWords, allWords, stateWords, allFrom, stateFrom, allKnown, knownHead, isState, isStateAt, putEvent};
 ghost use lib.Seq.{sets};
+use crate::head::HeadOffsets;
+use crate::head::OPEN;
 use model::types::Counts;
 use model::types::Lengths;
 use model::types::Process;
@@ -41,10 +44,10 @@ pub fn is_head(words: &[u32]) -> bool
     if words.len() != Sizes::STATE {
         return false;
     }
-    if words[0] != Sizes::VERSION {
+    if words[HeadOffsets::VERSION] != Sizes::VERSION {
         return false;
     }
-    words[1] < 2
+    words[HeadOffsets::OPENED] <= OPEN
 }
 
 // Whether the words are a state of this layout.
@@ -78,17 +81,17 @@ pub fn counts_in(words: &[u32]) -> Counts
     ensures { λ r. ⌜ r ≡ stateFrom (now (words .entry)) .counts ⌝ }
 {
     Counts {
-        nodes: words[7],
-        versions: words[8],
+        nodes: words[HeadOffsets::NODES],
+        versions: words[HeadOffsets::VERSIONS],
     }
 }
 
 // The processes, one after another.
-fn processes_in(words: &[u32]) -> [Process; 8]
+fn processes_in(words: &[u32]) -> [Process; State::PROCESSES as usize]
     requires { ⌜ length (now words) ≡ sizes .state ⌝ }
     ensures { λ r. ⌜ r ≡ allFrom (limits .processes) (drop (sizes .head) (now (words .entry))) ⌝ }
 {
-    let mut process = [Process::idle(); 8];
+    let mut process = [Process::idle(); State::PROCESSES as usize];
     let mut at = Sizes::HEAD;
     let mut i = 0;
     while i < State::PROCESSES {
@@ -105,16 +108,16 @@ pub fn state_in(words: &[u32]) -> State
     ensures { λ r. ⌜ r ≡ stateFrom (now (words .entry)) ⌝ }
 {
     let lengths = Lengths {
-        nodes: words[5],
-        versions: words[6],
+        nodes: words[HeadOffsets::NODE_LENGTH],
+        versions: words[HeadOffsets::VERSION_LENGTH],
     };
     let counts = counts_in(words);
     let process = processes_in(words);
     State {
-        opened: words[1] == 1,
-        processes: words[2],
-        limit: words[3],
-        events: words[4],
+        opened: words[HeadOffsets::OPENED] == OPEN,
+        processes: words[HeadOffsets::PROCESSES],
+        limit: words[HeadOffsets::LIMIT],
+        events: words[HeadOffsets::EVENTS],
         lengths,
         counts,
         process,
@@ -123,20 +126,20 @@ pub fn state_in(words: &[u32]) -> State
 
 fn put_head(words: &mut [u32], s: State)
     requires { ⌜ length (now words) ≡ sizes .state ⌝ }
-    ensures { λ r. ⌜ now (words .exit) ≡ sets (now (words .entry)) 0 (headWords s) ⌝ }
+    ensures { λ r. ⌜ now (words .exit) ≡ sets (now (words .entry)) (headOffsets .version) (headWords s) ⌝ }
 {
-    words[0] = Sizes::VERSION;
-    words[1] = s.opened as u32;
-    words[2] = s.processes;
-    words[3] = s.limit;
-    words[4] = s.events;
-    words[5] = s.lengths.nodes;
-    words[6] = s.lengths.versions;
-    words[7] = s.counts.nodes;
-    words[8] = s.counts.versions;
+    words[HeadOffsets::VERSION] = Sizes::VERSION;
+    words[HeadOffsets::OPENED] = s.opened as u32;
+    words[HeadOffsets::PROCESSES] = s.processes;
+    words[HeadOffsets::LIMIT] = s.limit;
+    words[HeadOffsets::EVENTS] = s.events;
+    words[HeadOffsets::NODE_LENGTH] = s.lengths.nodes;
+    words[HeadOffsets::VERSION_LENGTH] = s.lengths.versions;
+    words[HeadOffsets::NODES] = s.counts.nodes;
+    words[HeadOffsets::VERSIONS] = s.counts.versions;
 }
 
-fn put_processes(words: &mut [u32], process: [Process; 8])
+fn put_processes(words: &mut [u32], process: [Process; State::PROCESSES as usize])
     requires { ⌜ length (now words) ≡ sizes .state ⌝ }
     ensures { λ r. ⌜ now (words .exit) ≡ take (sizes .head) (now (words .entry)) ++ allWords process ⌝ }
 {
@@ -163,9 +166,9 @@ pub fn put_state(words: &mut [u32], s: State)
 // The counts that an event leaves.
 pub fn put_event(words: &mut [u32], tick: u32, counts: Counts)
     requires { ⌜ length (now words) ≡ sizes .state ⌝ }
-    ensures { λ r. ⌜ now (words .exit) ≡ set (set (set (now (words .entry)) 4 tick) 7 (counts .nodes)) 8 (counts .versions) ⌝ }
+    ensures { λ r. ⌜ now (words .exit) ≡ putEvent (now (words .entry)) tick counts ⌝ }
 {
-    words[4] = tick;
-    words[7] = counts.nodes;
-    words[8] = counts.versions;
+    words[HeadOffsets::EVENTS] = tick;
+    words[HeadOffsets::NODES] = counts.nodes;
+    words[HeadOffsets::VERSIONS] = counts.versions;
 }

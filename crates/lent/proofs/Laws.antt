@@ -26,8 +26,8 @@ use Rattle.calls.specs.Advance.{Advance, advanceBy, advanceOf}
 use Rattle.calls.proofs.Laws.{stays, moves, step-stays, step-moves}
 use Rattle.process.specs.Numbers.{kindOf}
 use Rattle.process.specs.ProcessWords.{sizes, processWords}
-use Rattle.layout.specs.StateWords.{stateWords, stateFrom, knownHead, isState, isStateAt, startOf}
-use Rattle.layout.proofs.Laws.{process-at, state-facts, state-back, putProcess, putEvent, event-words}
+use Rattle.layout.specs.StateWords.{stateWords, stateFrom, knownHead, isState, isStateAt, startOf, putEvent}
+use Rattle.layout.proofs.Laws.{process-at, state-facts, state-back, putProcess, event-words}
 use Rattle.layout.proofs.Known.{by-none}
 use Rattle.layout.proofs.Whole.{put-part}
 use Rattle.layout.proofs.Written.{header-at, written-same, written-over}

@@ -8,7 +8,7 @@ use native.Mathlib.Omega.{arith}
 use lib.ListN.{length, getD, set, replicate, length-set}
 use lib.Seq.{sets, length-sets, getD-set-same, getD-set-other}
 use Rattle.model.specs.Types.{Version}
-use Rattle.model.specs.Layout.{nodeWords, versionWords, wordSize, lowHalf, highHalf, joined, word, withWord, key, field, nodeRecord, withNode, withVersion}
+use Rattle.model.specs.Layout.{nodeWords, versionWords, levels, wordSize, lowHalf, highHalf, joined, word, withWord, nodeOffsets, lockAt, key, field, nodeRecord, withNode, withVersion}
 use Rattle.model.proofs.Tests.{by-eq, by-le}
 
 -- ---- one word of a node
@@ -53,28 +53,28 @@ high-joined low high h = omega arith
 
 -- The words of a key are neither its newest version's, nor its top's, nor links nor locks. Which they are, only these laws know.
 abbrev pub KeyField : ℕ → Type 0
-KeyField f = (f < 4) × (f ≢ 1) × (f ≢ 2)
+KeyField f = (f < nodeOffsets .links) × (f ≢ nodeOffsets .newest) × (f ≢ nodeOffsets .top)
 
-low-field : KeyField 0
+low-field : KeyField (nodeOffsets .keylow)
 low-field = (omega arith, omega arith, omega arith)
 
-high-field : KeyField 3
+high-field : KeyField (nodeOffsets .keyhigh)
 high-field = (omega arith, omega arith, omega arith)
 
 module _ (t : List ℕ) (x : ℕ) where
   pub same-key : (u : List ℕ) (y : ℕ) → ((f : ℕ) → KeyField f → word t x f ≡ word u y f) → key t x ≡ key u y
-  same-key u y h = let low = h 0 low-field in let high = h 3 high-field in cc
+  same-key u y h = let low = h _ low-field in let high = h _ high-field in cc
 
   pub written-key : (k v tp y : ℕ) → ((f : ℕ) → KeyField f → word t x f ≡ getD (nodeRecord k v tp y) f 0) → key t x ≡ k
   unfolding joined
   written-key k v tp y h =
-      let low : word t x 0 ≡ lowHalf k = h 0 low-field in
-      let high : word t x 3 ≡ highHalf k = h 3 high-field in
+      let low : word t x (nodeOffsets .keylow) ≡ lowHalf k = h _ low-field in
+      let high : word t x (nodeOffsets .keyhigh) ≡ highHalf k = h _ high-field in
       omega arith
 
   pub zero-key : ((f : ℕ) → KeyField f → word t x f ≡ 0) → key t x ≡ 0
   unfolding joined
-  zero-key h = omega (arith, h 0 low-field, h 3 high-field)
+  zero-key h = omega (arith, h _ low-field, h _ high-field)
 
 -- ---- a run of words
 
@@ -138,7 +138,7 @@ module _ (t : List ℕ) (i : ℕ) (v : Version) (p : ℕ) where
       (λ h. sets-below (v .value ∷ v .timestamp ∷ p ∷ []) t (versionWords * i) (versionWords * j + f) (omega arith))
 
 -- a new node's locks are free at every level
-pub node-locks : (k v tp y l : ℕ) → l < 6 → getD (nodeRecord k v tp y) (10 + l) 0 ≡ 0
+pub node-locks : (k v tp y l : ℕ) → l < levels → getD (nodeRecord k v tp y) (lockAt l) 0 ≡ 0
 node-locks k v tp y zero h = refl
 node-locks k v tp y (suc zero) h = refl
 node-locks k v tp y (suc (suc zero)) h = refl

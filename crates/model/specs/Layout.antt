@@ -3,7 +3,7 @@ use Prim.Native.Nat.{ℕ, suc, _+_, _*_, _-_, _/_, _%_}
 use mathlib.Core.List.{List, [], _∷_, _++_}
 use lib.ListN.{getD, set, replicate}
 use lib.Seq.{sets}
-use Rattle.model.specs.Types.{Counts, Limits, Version}
+use Rattle.model.specs.Types.{Counts, Limits, NodeOffsets, VersionOffsets, Version}
 
 -- ---- sizes and limits, each said once
 
@@ -63,31 +63,47 @@ word t x f = getD t (nodeWords * x + f) 0
 unfoldable pub withWord : List ℕ → ℕ → ℕ → ℕ → List ℕ
 withWord t x f v = set t (nodeWords * x + f) v
 
--- "word 0 tray number, 1 place of the newest reading, 2 top level, [..] 4 to 9 links of levels 0 to 5, 10 to 15 locks of
--- levels 0 to 5." P3: "Word 3 of a node takes the high half"
+-- where each word of a node stands
+abbrev pub nodeOffsets : NodeOffsets
+nodeOffsets = record {
+  keylow = 0;  -- "word 0 tray number"
+  newest = 1;  -- "1 place of the newest reading"
+  top = 2;  -- "2 top level"
+  keyhigh = 3;  -- P3: "Word 3 of a node takes the high half"
+  links = 4;  -- "4 to 9 links of levels 0 to 5"
+  locks = 10;  -- "10 to 15 locks of levels 0 to 5."
+}
+
 abbrev pub key : List ℕ → ℕ → ℕ
-key t x = joined (word t x 0) (word t x 3)
+key t x = joined (word t x (nodeOffsets .keylow)) (word t x (nodeOffsets .keyhigh))
 
 abbrev pub newest : List ℕ → ℕ → ℕ
-newest t x = word t x 1
+newest t x = word t x (nodeOffsets .newest)
 
 abbrev pub top : List ℕ → ℕ → ℕ
-top t x = word t x 2
+top t x = word t x (nodeOffsets .top)
+
+-- the word of a node that has its link, and its lock, at level l
+abbrev pub linkAt : ℕ → ℕ
+linkAt l = nodeOffsets .links + l
+
+abbrev pub lockAt : ℕ → ℕ
+lockAt l = nodeOffsets .locks + l
 
 abbrev pub next : List ℕ → ℕ → ℕ → ℕ
-next t l x = word t x (4 + l)
+next t l x = word t x (linkAt l)
 
 abbrev pub lock : List ℕ → ℕ → ℕ → ℕ
-lock t l x = word t x (10 + l)
+lock t l x = word t x (lockAt l)
 
 abbrev pub withNewest : List ℕ → ℕ → ℕ → List ℕ
-withNewest t x v = withWord t x 1 v
+withNewest t x v = withWord t x (nodeOffsets .newest) v
 
 abbrev pub withNext : List ℕ → ℕ → ℕ → ℕ → List ℕ
-withNext t l x y = withWord t x (4 + l) y
+withNext t l x y = withWord t x (linkAt l) y
 
 abbrev pub withLock : List ℕ → ℕ → ℕ → ℕ → List ℕ
-withLock t l x holder = withWord t x (10 + l) holder
+withLock t l x holder = withWord t x (lockAt l) holder
 
 -- the sixteen words in their order
 abbrev pub nodeWith : (key newest top : ℕ) (links locks : List ℕ) → List ℕ
@@ -96,29 +112,33 @@ nodeWith k v t links locks = lowHalf k ∷ v ∷ t ∷ highHalf k ∷ links ++ l
 -- "A new tray's sixteen words are written as one record": "Its link at level 0 is the one p had, its other links and
 -- its locks are 0"
 abbrev pub nodeRecord : (key newest top next : ℕ) → List ℕ
-nodeRecord k v t y = nodeWith k v t (y ∷ 0 ∷ 0 ∷ 0 ∷ 0 ∷ 0 ∷ []) (0 ∷ 0 ∷ 0 ∷ 0 ∷ 0 ∷ 0 ∷ [])
+nodeRecord k v t y = nodeWith k v t (y ∷ replicate topLevel 0) (replicate levels 0)
 
 unfoldable pub withNode : List ℕ → ℕ → (key newest top next : ℕ) → List ℕ
 withNode t x k v tp y = sets t (nodeWords * x) (nodeRecord k v tp y)
 
 -- "Opening zeroes both tables and sets word 2 of node 0 to 5."
 unfoldable pub freshNodes : ℕ → List ℕ
-freshNodes n = withWord (replicate n 0) 0 2 topLevel
+freshNodes n = withWord (replicate n 0) 0 (nodeOffsets .top) topLevel
 
 -- ---- the version table
 
--- word f of version i: "value, stamp, place of the previous one (0 for none)"
+-- word f of version i
 unfoldable pub field : List ℕ → ℕ → ℕ → ℕ
 field t i f = getD t (versionWords * i + f) 0
 
+-- "value, stamp, place of the previous one (0 for none)"
+abbrev pub versionOffsets : VersionOffsets
+versionOffsets = record { value = 0; timestamp = 1; prev = 2 }
+
 abbrev pub value : List ℕ → ℕ → ℕ
-value t i = field t i 0
+value t i = field t i (versionOffsets .value)
 
 abbrev pub timestamp : List ℕ → ℕ → ℕ
-timestamp t i = field t i 1
+timestamp t i = field t i (versionOffsets .timestamp)
 
 abbrev pub prev : List ℕ → ℕ → ℕ
-prev t i = field t i 2
+prev t i = field t i (versionOffsets .prev)
 
 abbrev pub versionAt : List ℕ → ℕ → Version
 versionAt t i = record { value = value t i; timestamp = timestamp t i }

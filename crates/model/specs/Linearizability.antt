@@ -17,7 +17,7 @@ use lib.Dec.{eqb, leb}
 use lib.ListN.{length, getD}
 use Rattle.model.specs.Types.{NoProcess, Busy, Permit, Granted, Denied, Counts, Finish, Starting, Stepping, Looking, Inspecting, Status}
 use Rattle.model.specs.Choice.{if_then_else_}
-use Rattle.model.specs.Layout.{limits}
+use Rattle.model.specs.Layout.{limits, nodeWords, versionWords}
 use Rattle.model.specs.Numbers.{numberOf, placeOf}
 use Rattle.model.specs.Requests.{Fitting, Operation, put, get, kindOf}
 use Rattle.model.specs.Map.{Map, held, Reply, applied, lookIn}
@@ -272,9 +272,9 @@ pub record Linearizable (S : System) : Type 0 where
   pub asks : (f : Fitting) → openDue f ≡ Granted → (s : S .Setup) × (S .fitting s ≡ f)
   -- "Each is given if its condition is the first met in the order below, and never otherwise."
   pub opens : (s : S .Setup) → OpensAs (openDue (S .fitting s)) (S .fresh s)
-  -- tables of 16 words a node and 3 words a version, of which node 0 and version 0 hold none
+  -- tables of whole nodes and versions, of which node 0 and version 0 hold none
   pub claim : (s : S .Setup) (w : S .Carrier) → S .fresh s ≡ opened w
-      → (K W : ℕ) → S .fitting s .nodes ≡ 16 * suc K → S .fitting s .versions ≡ 3 * suc W
+      → (K W : ℕ) → S .fitting s .nodes ≡ nodeWords * suc K → S .fitting s .versions ≡ versionWords * suc W
       → (actions : List Action)
       → let r = performAll (begin S s w) actions in
       Claim K W (viewOf S (r .store)) (r .history)

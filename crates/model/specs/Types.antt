@@ -36,3 +36,5 @@ pub use Rattle.model.specs.declared.types.Looking.{Looking}
 pub use Rattle.model.specs.declared.types.Inspecting.{Inspecting}
 pub use Rattle.model.specs.declared.types.Status.{Status}
 pub use Rattle.model.specs.declared.types.Limits.{Limits}
+pub use Rattle.model.specs.declared.types.NodeOffsets.{NodeOffsets}
+pub use Rattle.model.specs.declared.types.VersionOffsets.{VersionOffsets}

@@ -1,7 +1,10 @@
 // The state of the store and the outcome of each call, by value.
 ghost use mathlib.Core.Path.{_≡_};
-ghost use Rattle.model.specs.Layout.{limits};
+ghost use Rattle.model.specs.Layout.{limits, nodeOffsets, versionOffsets};
 ghost use Rattle.model.specs.State.{idleProcess, freshState, closedState};
+
+// The width of a key is said here; that it takes two words, in halves.rt.
+pub type Key = u64;
 
 // What a process was asked for; `Idle` where it has no call.
 pub enum Kind {
@@ -73,7 +76,7 @@ pub enum Refusal {
 // What was asked, and the tick of its start: no step changes it.
 pub struct Call {
     pub kind: Kind,
-    pub key: u64,
+    pub key: Key,
     pub value: u32,
     pub timestamp: u32,
     pub top: u32,
@@ -99,7 +102,7 @@ pub struct Process {
     pub call: Call,
     pub cursor: Cursor,
     pub effect: Effect,
-    pub preds: [u32; 6],
+    pub preds: [u32; State::LEVELS],
 }
 
 // Nodes (the head not counted) and versions in use.
@@ -121,7 +124,7 @@ pub struct State {
     pub events: u32,
     pub lengths: Lengths,
     pub counts: Counts,
-    pub process: [Process; 8],
+    pub process: [Process; State::PROCESSES as usize],
 }
 
 // A version of a key's value: document 01's reading.
@@ -227,9 +230,36 @@ pub struct Limits {
     pub versions: u32,
     pub processes: u32,
     pub events: u32,
-    pub key: u64,
+    pub key: Key,
     pub answers: u32,
     pub count: u32,
+}
+
+// Where each word of a node stands among its words; `links` and `locks` are those of level 0, and the other levels follow.
+pub struct NodeOffsets {
+    pub keylow: usize,
+    pub newest: usize,
+    pub top: usize,
+    pub keyhigh: usize,
+    pub links: usize,
+    pub locks: usize,
+}
+
+// Where each word of a version stands.
+pub struct VersionOffsets {
+    pub value: usize,
+    pub timestamp: usize,
+    pub prev: usize,
+}
+
+impl Kind {
+    // How many kinds there are.
+    pub const KINDS: u32 = 3;
+}
+
+impl Phase {
+    // How many phases there are.
+    pub const PHASES: u32 = 9;
 }
 
 impl Process {
@@ -255,7 +285,7 @@ impl Process {
             answer: Answer::None,
             tick: 0,
         };
-        let preds = [0; 6];
+        let preds = [0; State::LEVELS];
         Self {
             call,
             cursor,
@@ -270,8 +300,10 @@ impl State {
     pub const NODE_WORDS: u32 = 16;
 
     pub const VERSION_WORDS: u32 = 3;
-    // The highest level.
+    // The highest level, and how many there are.
     pub const TOP: u32 = 5;
+
+    pub const LEVELS: usize = State::TOP as usize + 1;
     // At most so many nodes, versions, processes, events and answers, and the greatest key.
     pub const NODES: u32 = 1023;
 
@@ -281,7 +313,7 @@ impl State {
 
     pub const EVENTS: u32 = 1000000000;
 
-    pub const KEY: u64 = 18446744073709551614;
+    pub const KEY: Key = 18446744073709551614;
 
     pub const ANSWERS: u32 = 7;
     // The greatest count of the tally: it stays there.
@@ -310,7 +342,7 @@ impl State {
         ensures { λ r. ⌜ r ≡ freshState processes limit lengths ⌝ }
     {
         let idle = Process::idle();
-        let process = [idle; 8];
+        let process = [idle; Self::PROCESSES as usize];
         let counts = Counts {
             nodes: 0,
             versions: 0,
@@ -331,7 +363,7 @@ impl State {
         ensures { λ r. ⌜ r ≡ closedState ⌝ }
     {
         let idle = Process::idle();
-        let process = [idle; 8];
+        let process = [idle; Self::PROCESSES as usize];
         let lengths = Lengths {
             nodes: 0,
             versions: 0,
@@ -348,6 +380,53 @@ impl State {
             lengths,
             counts,
             process,
+        }
+    }
+}
+
+impl NodeOffsets {
+    pub const KEY_LOW: usize = 0;
+
+    pub const NEWEST: usize = 1;
+
+    pub const TOP: usize = 2;
+
+    pub const KEY_HIGH: usize = 3;
+
+    pub const LINKS: usize = 4;
+
+    pub const LOCKS: usize = 10;
+
+    // Never called: it ties the constants to the definitions.
+    pub fn words() -> Self
+        ensures { λ r. ⌜ r ≡ nodeOffsets ⌝ }
+    {
+        Self {
+            keylow: Self::KEY_LOW,
+            newest: Self::NEWEST,
+            top: Self::TOP,
+            keyhigh: Self::KEY_HIGH,
+            links: Self::LINKS,
+            locks: Self::LOCKS,
+        }
+    }
+}
+
+impl VersionOffsets {
+    pub const VALUE: usize = 0;
+
+    pub const TIMESTAMP: usize = 1;
+
+    pub const PREV: usize = 2;
+
+    // Never called: it ties the constants to the definitions.
+    pub fn words() -> Self
+        ensures { λ r. ⌜ r ≡ versionOffsets ⌝ }
+    {
+        Self {
+            value: Self::VALUE,
+            timestamp: Self::TIMESTAMP,
+            prev: Self::PREV,
         }
     }
 }

@@ -9,11 +9,11 @@ use lib.ListN.{length, getD, drop, length-drop}
 use lib.Seq.{take-all, sets}
 use borrow.Author.Tests.{ltb-true, eqb-true, eqb-false, lt-ltb}
 use Rattle.model.specs.declared.types.Process.{Process}
-use Rattle.model.specs.Layout.{wordSize, levels, lowHalf}
+use Rattle.model.specs.Layout.{limits, wordSize, levels, lowHalf}
 use Rattle.model.proofs.Laws.{place-at, answer-at, place-below}
 use Rattle.model.proofs.Words.{low-joined, high-joined, joined-halves}
-use Rattle.process.specs.Numbers.{kindNumber, kindOf, phaseNumber, phaseOf}
-use Rattle.process.specs.ProcessWords.{sizes, processWords, processFrom, knownProcess, callWords, cursorWords, effectWords}
+use Rattle.process.specs.Numbers.{kindNumber, kinds, kindOf, phaseNumber, phases, phaseOf}
+use Rattle.process.specs.ProcessWords.{sizes, processOffsets, processWords, processFrom, knownProcess, callWords, cursorWords, effectWords}
 use Rattle.model.specs.declared.types.Kind.{Kind}
 use Rattle.model.specs.declared.types.Kind.the-variants.{Idle, Put, Get}
 use Rattle.model.specs.declared.types.Phase.{Phase}
@@ -36,18 +36,18 @@ below (suc k) f t n h = cases (below k f (and-eq-true-iff (f k) (allBelow k f) .
     cases smaller true e = ap f (eqb-true n k e) ∙ and-eq-true-iff (f k) (allBelow k f) .0 t .0
     cases smaller false e = smaller (omega (arith, h, eqb-false n k e))
 
-kind-back : (n : ℕ) → n < 3 → kindNumber (kindOf n) ≡ n
-kind-back n h = eqb-true _ _ (below 3 (λ n. eqb (kindNumber (kindOf n)) n) refl n h)
+kind-back : (n : ℕ) → n < length kinds → kindNumber (kindOf n) ≡ n
+kind-back n h = eqb-true _ _ (below (length kinds) (λ n. eqb (kindNumber (kindOf n)) n) refl n h)
 
-phase-back : (n : ℕ) → n < 9 → phaseNumber (phaseOf n) ≡ n
-phase-back n h = eqb-true _ _ (below 9 (λ n. eqb (phaseNumber (phaseOf n)) n) refl n h)
+phase-back : (n : ℕ) → n < length phases → phaseNumber (phaseOf n) ≡ n
+phase-back n h = eqb-true _ _ (below (length phases) (λ n. eqb (phaseNumber (phaseOf n)) n) refl n h)
 
-pub kind-from : (k : Kind) → (kindOf (kindNumber k) ≡ k) × (ltb (kindNumber k) 3 ≡ true)
+pub kind-from : (k : Kind) → (kindOf (kindNumber k) ≡ k) × (ltb (kindNumber k) (length kinds) ≡ true)
 kind-from Idle = (refl, refl)
 kind-from Put = (refl, refl)
 kind-from Get = (refl, refl)
 
-phase-from : (p : Phase) → (phaseOf (phaseNumber p) ≡ p) × (ltb (phaseNumber p) 9 ≡ true)
+phase-from : (p : Phase) → (phaseOf (phaseNumber p) ≡ p) × (ltb (phaseNumber p) (length phases) ≡ true)
 phase-from Walk = (refl, refl)
 phase-from Read = (refl, refl)
 phase-from Seek = (refl, refl)
@@ -61,26 +61,30 @@ phase-from Release = (refl, refl)
 -- ---- from words and back
 
 known-facts : (w : List ℕ) → knownProcess w ≡ true
-    → (getD w 1 0 < wordSize) × (getD w 0 0 < 3) × (getD w 7 0 < 9) × (getD w 11 0 < 7)
+    → (getD w (processOffsets .keylow) 0 < wordSize) × (getD w (processOffsets .kind) 0 < length kinds)
+    × (getD w (processOffsets .phase) 0 < length phases) × (getD w (processOffsets .answer) 0 < limits .answers)
 known-facts w k =
-    let a = and-eq-true-iff (ltb (getD w 1 0) wordSize && ltb (getD w 0 0) 3 && ltb (getD w 7 0) 9) (ltb (getD w 11 0) 7) .0 k in
-    let b = and-eq-true-iff (ltb (getD w 1 0) wordSize && ltb (getD w 0 0) 3) (ltb (getD w 7 0) 9) .0 (a .0) in
-    let c = and-eq-true-iff (ltb (getD w 1 0) wordSize) (ltb (getD w 0 0) 3) .0 (b .0) in
+    let key = ltb (getD w (processOffsets .keylow) 0) wordSize in
+    let kind = ltb (getD w (processOffsets .kind) 0) (length kinds) in
+    let phase = ltb (getD w (processOffsets .phase) 0) (length phases) in
+    let a = and-eq-true-iff (key && kind && phase) (ltb (getD w (processOffsets .answer) 0) (limits .answers)) .0 k in
+    let b = and-eq-true-iff (key && kind) phase .0 (a .0) in
+    let c = and-eq-true-iff key kind .0 (b .0) in
     (ltb-true _ _ (c .0), ltb-true _ _ (c .1), ltb-true _ _ (b .1), ltb-true _ _ (a .1))
 
 pub process-back : (w : List ℕ) → length w ≡ sizes .process → knownProcess w ≡ true → processWords (processFrom w) ≡ w
 process-back w h k =
     let f = known-facts w k in
-    let six : length (drop 13 w) ≤ 6 = rw length-drop (omega (arith, h)) in
+    let rest : length (drop (processOffsets .preds) w) ≤ levels = rw length-drop (omega (arith, h)) in
     simp (
-      low-joined (getD w 1 0) (getD w 2 0) (f .0),
-      high-joined (getD w 1 0) (getD w 2 0) (f .0),
-      kind-back (getD w 0 0) (f .1),
-      phase-back (getD w 7 0) (f .2),
-      place-at (getD w 11 0) (f .3),
-      take-all 6 (drop 13 w) six,
+      low-joined (getD w (processOffsets .keylow) 0) (getD w (processOffsets .keyhigh) 0) (f .0),
+      high-joined (getD w (processOffsets .keylow) 0) (getD w (processOffsets .keyhigh) 0) (f .0),
+      kind-back (getD w (processOffsets .kind) 0) (f .1),
+      phase-back (getD w (processOffsets .phase) 0) (f .2),
+      place-at (getD w (processOffsets .answer) 0) (f .3),
+      take-all levels (drop (processOffsets .preds) w) rest,
     )
-    (sym (heads-are 13 0 w (omega (arith, h))))
+    (sym (heads-are (processOffsets .preds) 0 w (omega (arith, h))))
 
 -- ---- to words and back: a process remembers a node at each level
 
@@ -95,32 +99,34 @@ by-name : (p : Process) → length (p .preds) ≡ levels → processWords (recor
   call = p .call;
   cursor = p .cursor;
   effect = p .effect;
-  preds = heads 6 0 (p .preds);
+  preds = heads levels 0 (p .preds);
 }) ≡ processWords p
-by-name p h = ap (λ preds. processWords (record { call = p .call; cursor = p .cursor; effect = p .effect; preds = preds })) (spelt 6 (p .preds) h)
+by-name p h = ap (λ preds. processWords (record { call = p .call; cursor = p .cursor; effect = p .effect; preds = preds })) (spelt levels (p .preds) h)
 
 pub process-from : (p : Process) → length (p .preds) ≡ levels → processFrom (processWords p) ≡ p
 process-from p h =
     ap processFrom (sym (by-name p h))
-    ∙ simp (joined-halves (p .call .key), kind-from (p .call .kind) .0, phase-from (p .cursor .phase) .0, answer-at (p .effect .answer), spelt 6 (p .preds) h)
+    ∙ simp (joined-halves (p .call .key), kind-from (p .call .kind) .0, phase-from (p .cursor .phase) .0, answer-at (p .effect .answer), spelt levels (p .preds) h)
 
 pub process-known : (p : Process) → knownProcess (processWords p) ≡ true
 process-known p = simp (
   lt-ltb (lowHalf (p .call .key)) wordSize (omega arith),
   kind-from (p .call .kind) .1,
   phase-from (p .cursor .phase) .1,
-  lt-ltb (placeOf (p .effect .answer)) 7 (place-below (p .effect .answer)),
+  lt-ltb (placeOf (p .effect .answer)) (limits .answers) (place-below (p .effect .answer)),
 )
 
 -- ---- all parts written
 
 abbrev writtenOver : (w : List ℕ) → Process → (preds : List ℕ) → List ℕ
 writtenOver w p preds =
-    sets (sets (sets (sets w 0 (callWords (p .call))) 7 (cursorWords (p .cursor))) 11 (effectWords (p .effect))) 13 preds
+    let called = sets w (processOffsets .kind) (callWords (p .call)) in
+    let moved = sets called (processOffsets .phase) (cursorWords (p .cursor)) in
+    sets (sets moved (processOffsets .answer) (effectWords (p .effect))) (processOffsets .preds) preds
 
-pub over-written : (w : List ℕ) (p : Process) → length w ≡ sizes .process → length (p .preds) ≡ 6 → writtenOver w p
+pub over-written : (w : List ℕ) (p : Process) → length w ≡ sizes .process → length (p .preds) ≡ levels → writtenOver w p
     (p .preds) ≡ processWords p
 over-written w p h k =
     ap (λ w. writtenOver w p (p .preds)) (sym (spelt (sizes .process) w h))
-    ∙ ap (writtenOver (heads (sizes .process) 0 w) p) (sym (spelt 6 (p .preds) k))
-    ∙ ap (λ preds. callWords (p .call) ++ cursorWords (p .cursor) ++ effectWords (p .effect) ++ preds) (spelt 6 (p .preds) k)
+    ∙ ap (writtenOver (heads (sizes .process) 0 w) p) (sym (spelt levels (p .preds) k))
+    ∙ ap (λ preds. callWords (p .call) ++ cursorWords (p .cursor) ++ effectWords (p .effect) ++ preds) (spelt levels (p .preds) k)

@@ -11,10 +11,30 @@ use Rattle.model.specs.declared.types.Process.{Process}
 use Rattle.model.specs.Layout.{levels, wordSize, lowHalf, highHalf, joined}
 use Rattle.model.specs.Numbers.{placeOf, answers, answerOf}
 use Rattle.process.specs.declared.types.Sizes.{Sizes}
+use Rattle.process.specs.declared.types.ProcessOffsets.{ProcessOffsets}
 use Rattle.process.specs.Numbers.{kindNumber, kinds, kindOf, phaseNumber, phases, phaseOf}
 
 abbrev pub sizes : Sizes
 sizes = record { version = 2; head = 9; process = 19; state = 161 }
+
+-- where each word of a process stands: its call, cursor and effect, and the node remembered at level 0, then at the others
+abbrev pub processOffsets : ProcessOffsets
+processOffsets = record {
+  kind = 0;
+  keylow = 1;
+  keyhigh = 2;
+  value = 3;
+  timestamp = 4;
+  top = 5;
+  start = 6;
+  phase = 7;
+  level = 8;
+  pred = 9;
+  made = 10;
+  answer = 11;
+  tick = 12;
+  preds = 13;
+}
 
 -- ---- encode
 
@@ -35,16 +55,21 @@ processWords p = callWords (p .call) ++ cursorWords (p .cursor) ++ effectWords (
 abbrev pub processFrom : List ℕ → Process
 processFrom w = record {
   call = record {
-    kind = kindOf (getD w 0 0);
-    key = joined (getD w 1 0) (getD w 2 0);
-    value = getD w 3 0;
-    timestamp = getD w 4 0;
-    top = getD w 5 0;
-    start = getD w 6 0;
+    kind = kindOf (getD w (processOffsets .kind) 0);
+    key = joined (getD w (processOffsets .keylow) 0) (getD w (processOffsets .keyhigh) 0);
+    value = getD w (processOffsets .value) 0;
+    timestamp = getD w (processOffsets .timestamp) 0;
+    top = getD w (processOffsets .top) 0;
+    start = getD w (processOffsets .start) 0;
   };
-  cursor = record { phase = phaseOf (getD w 7 0); level = getD w 8 0; pred = getD w 9 0; made = getD w 10 0 };
-  effect = record { answer = answerOf (getD w 11 0); tick = getD w 12 0 };
-  preds = take levels (drop 13 w);
+  cursor = record {
+    phase = phaseOf (getD w (processOffsets .phase) 0);
+    level = getD w (processOffsets .level) 0;
+    pred = getD w (processOffsets .pred) 0;
+    made = getD w (processOffsets .made) 0;
+  };
+  effect = record { answer = answerOf (getD w (processOffsets .answer) 0); tick = getD w (processOffsets .tick) 0 };
+  preds = take levels (drop (processOffsets .preds) w);
 }
 
 -- ---- words that are a process
@@ -52,5 +77,5 @@ processFrom w = record {
 -- kind, phase and answer have a number. "All words are 32 bits.": so the low half of a key is told from the high one
 abbrev pub knownProcess : List ℕ → Bool
 knownProcess w =
-    ltb (getD w 1 0) wordSize && ltb (getD w 0 0) (length kinds) && ltb (getD w 7 0) (length phases)
-    && ltb (getD w 11 0) (length answers)
+    ltb (getD w (processOffsets .keylow) 0) wordSize && ltb (getD w (processOffsets .kind) 0) (length kinds)
+    && ltb (getD w (processOffsets .phase) 0) (length phases) && ltb (getD w (processOffsets .answer) 0) (length answers)

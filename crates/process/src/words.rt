@@ -1,13 +1,15 @@
 // One process in its nineteen words.
 ghost use mathlib.Core.Path.{_≡_};
 ghost use lib.ListN.{length};
-ghost use Rattle.process.specs.ProcessWords.{sizes, callWords, cursorWords, effectWords, processWords, processFrom, knownProcess};
+ghost use Rattle.process.specs.ProcessWords.{sizes, processOffsets, callWords, cursorWords, effectWords, processWords, processFrom, knownProcess};
 ghost use lib.Seq.{sets};
 use crate::numbers::answer_of;
 use crate::numbers::kind_number;
 use crate::numbers::kind_of;
 use crate::numbers::phase_number;
 use crate::numbers::phase_of;
+use crate::types::ProcessOffsets;
+use crate::types::Sizes;
 use model::halves::high_half;
 use model::halves::joined;
 use model::halves::low_half;
@@ -15,20 +17,22 @@ use model::numbers::place_of;
 use model::types::Call;
 use model::types::Cursor;
 use model::types::Effect;
+use model::types::Kind;
 use model::types::Phase;
 use model::types::Process;
+use model::types::State;
 
 pub fn call_in(w: &[u32]) -> Call
     requires { ⌜ length (now w) ≡ sizes .process ⌝ }
     ensures { λ r. ⌜ r ≡ processFrom (now (w .entry)) .call ⌝ }
 {
     Call {
-        kind: kind_of(w[0]),
-        key: joined(w[1], w[2]),
-        value: w[3],
-        timestamp: w[4],
-        top: w[5],
-        start: w[6],
+        kind: kind_of(w[ProcessOffsets::KIND]),
+        key: joined(w[ProcessOffsets::KEY_LOW], w[ProcessOffsets::KEY_HIGH]),
+        value: w[ProcessOffsets::VALUE],
+        timestamp: w[ProcessOffsets::TIMESTAMP],
+        top: w[ProcessOffsets::TOP],
+        start: w[ProcessOffsets::START],
     }
 }
 
@@ -37,10 +41,10 @@ pub fn cursor_in(w: &[u32]) -> Cursor
     ensures { λ r. ⌜ r ≡ processFrom (now (w .entry)) .cursor ⌝ }
 {
     Cursor {
-        phase: phase_of(w[7]),
-        level: w[8],
-        pred: w[9],
-        made: w[10],
+        phase: phase_of(w[ProcessOffsets::PHASE]),
+        level: w[ProcessOffsets::LEVEL],
+        pred: w[ProcessOffsets::PRED],
+        made: w[ProcessOffsets::MADE],
     }
 }
 
@@ -49,16 +53,23 @@ pub fn effect_in(w: &[u32]) -> Effect
     ensures { λ r. ⌜ r ≡ processFrom (now (w .entry)) .effect ⌝ }
 {
     Effect {
-        answer: answer_of(w[11]),
-        tick: w[12],
+        answer: answer_of(w[ProcessOffsets::ANSWER]),
+        tick: w[ProcessOffsets::TICK],
     }
 }
 
-pub fn preds_in(w: &[u32]) -> [u32; 6]
+pub fn preds_in(w: &[u32]) -> [u32; State::LEVELS]
     requires { ⌜ length (now w) ≡ sizes .process ⌝ }
     ensures { λ r. ⌜ r ≡ processFrom (now (w .entry)) .preds ⌝ }
 {
-    [w[13], w[14], w[15], w[16], w[17], w[18]]
+    [
+        w[ProcessOffsets::PREDS],
+        w[ProcessOffsets::PREDS + 1],
+        w[ProcessOffsets::PREDS + 2],
+        w[ProcessOffsets::PREDS + 3],
+        w[ProcessOffsets::PREDS + 4],
+        w[ProcessOffsets::PREDS + 5],
+    ]
 }
 
 pub fn process_in(w: &[u32]) -> Process
@@ -82,17 +93,17 @@ pub fn is_process(w: &[u32]) -> bool
     requires { ⌜ length (now w) ≡ sizes .process ⌝ }
     ensures { λ r. ⌜ r ≡ knownProcess (now (w .entry)) ⌝ }
 {
-    if 2 < w[0] {
+    if Kind::KINDS <= w[ProcessOffsets::KIND] {
         return false;
     }
-    if 8 < w[7] {
+    if Phase::PHASES <= w[ProcessOffsets::PHASE] {
         return false;
     }
-    w[11] < 7
+    w[ProcessOffsets::ANSWER] < State::ANSWERS
 }
 
 // A process by value in its words.
-pub fn words_of(p: Process) -> [u32; 19]
+pub fn words_of(p: Process) -> [u32; Sizes::PROCESS]
     ensures { λ r. ⌜ r ≡ processWords p ⌝ }
 {
     let call = p.call;
@@ -129,47 +140,47 @@ pub fn words_of(p: Process) -> [u32; 19]
 // every step.
 pub fn put_cursor(w: &mut [u32], phase: Phase, level: u32, pred: u32, made: u32)
     requires { ⌜ length (now w) ≡ sizes .process ⌝ }
-    ensures { λ r. ⌜ now (w .exit) ≡ sets (now (w .entry)) 7 (cursorWords (record { phase = phase; level = level; pred = pred; made = made })) ⌝ }
+    ensures { λ r. ⌜ now (w .exit) ≡ sets (now (w .entry)) (processOffsets .phase) (cursorWords (record { phase = phase; level = level; pred = pred; made = made })) ⌝ }
 {
-    w[7] = phase_number(phase);
-    w[8] = level;
-    w[9] = pred;
-    w[10] = made;
+    w[ProcessOffsets::PHASE] = phase_number(phase);
+    w[ProcessOffsets::LEVEL] = level;
+    w[ProcessOffsets::PRED] = pred;
+    w[ProcessOffsets::MADE] = made;
 }
 
 pub fn put_effect(w: &mut [u32], e: Effect)
     requires { ⌜ length (now w) ≡ sizes .process ⌝ }
-    ensures { λ r. ⌜ now (w .exit) ≡ sets (now (w .entry)) 11 (effectWords e) ⌝ }
+    ensures { λ r. ⌜ now (w .exit) ≡ sets (now (w .entry)) (processOffsets .answer) (effectWords e) ⌝ }
 {
     let answer = e.answer;
-    w[11] = place_of(answer);
-    w[12] = e.tick;
+    w[ProcessOffsets::ANSWER] = place_of(answer);
+    w[ProcessOffsets::TICK] = e.tick;
 }
 
 pub fn put_call(w: &mut [u32], c: Call)
     requires { ⌜ length (now w) ≡ sizes .process ⌝ }
-    ensures { λ r. ⌜ now (w .exit) ≡ sets (now (w .entry)) 0 (callWords c) ⌝ }
+    ensures { λ r. ⌜ now (w .exit) ≡ sets (now (w .entry)) (processOffsets .kind) (callWords c) ⌝ }
 {
     let kind = c.kind;
-    w[0] = kind_number(kind);
-    w[1] = low_half(c.key);
-    w[2] = high_half(c.key);
-    w[3] = c.value;
-    w[4] = c.timestamp;
-    w[5] = c.top;
-    w[6] = c.start;
+    w[ProcessOffsets::KIND] = kind_number(kind);
+    w[ProcessOffsets::KEY_LOW] = low_half(c.key);
+    w[ProcessOffsets::KEY_HIGH] = high_half(c.key);
+    w[ProcessOffsets::VALUE] = c.value;
+    w[ProcessOffsets::TIMESTAMP] = c.timestamp;
+    w[ProcessOffsets::TOP] = c.top;
+    w[ProcessOffsets::START] = c.start;
 }
 
-fn put_preds(w: &mut [u32], preds: [u32; 6])
+fn put_preds(w: &mut [u32], preds: [u32; State::LEVELS])
     requires { ⌜ length (now w) ≡ sizes .process ⌝ }
-    ensures { λ r. ⌜ now (w .exit) ≡ sets (now (w .entry)) 13 preds ⌝ }
+    ensures { λ r. ⌜ now (w .exit) ≡ sets (now (w .entry)) (processOffsets .preds) preds ⌝ }
 {
-    w[13] = preds[0];
-    w[14] = preds[1];
-    w[15] = preds[2];
-    w[16] = preds[3];
-    w[17] = preds[4];
-    w[18] = preds[5];
+    w[ProcessOffsets::PREDS] = preds[0];
+    w[ProcessOffsets::PREDS + 1] = preds[1];
+    w[ProcessOffsets::PREDS + 2] = preds[2];
+    w[ProcessOffsets::PREDS + 3] = preds[3];
+    w[ProcessOffsets::PREDS + 4] = preds[4];
+    w[ProcessOffsets::PREDS + 5] = preds[5];
 }
 
 pub fn put_process(w: &mut [u32], p: Process)

@@ -1,18 +1,21 @@
 // Refusals 10 and 6: what is within the limits of document 01 and of P3.
 ghost use mathlib.Core.Bool.{_&&_};
 ghost use mathlib.Core.Path.{_≡_};
-ghost use Prim.Native.Nat.{_<_};
+ghost use Prim.Native.Nat.{_+_, _<_};
 ghost use lib.Dec.{leb};
 ghost use lib.ListN.{length};
 ghost use Rattle.model.specs.declared.types.State.{State};
-ghost use Rattle.model.specs.Layout.{capacity};
+ghost use Rattle.model.specs.Layout.{wordSize, capacity};
 ghost use Rattle.model.specs.State.{lawfulKey, lawfulLength, lawfulNodes, lawfulVersions, lawfulState, lawfulStore};
 ghost use Rattle.layout.specs.Head.{headerWords, headerOf};
+use layout::head::HeaderOffsets;
+use layout::head::OPEN;
 use model::bounds::within;
+use model::types::Key;
 use model::types::State;
 
 // Refusal 6.
-pub fn lawful_key(key: u64) -> bool
+pub fn lawful_key(key: Key) -> bool
     ensures { λ r. ⌜ r ≡ lawfulKey key ⌝ }
 {
     (1 <= key) & (key <= State::KEY)
@@ -39,7 +42,7 @@ pub fn lawful_versions(n: usize) -> bool
 // Whether a table of n words, so many to a place, is lawful and has room for the places in use beside its first.
 // n is divided once: every step asks this of both tables.
 fn holds(n: u32, words: u32, most: u32, used: u32) -> bool
-    requires { ⌜ (0 < words) × (most < 4294967295) ⌝ }
+    requires { ⌜ (0 < words) × (most + 1 < wordSize) ⌝ }
     ensures { λ r. ⌜ r ≡ lawfulLength words most n && leb used (capacity words n) ⌝ }
 {
     let all = n / words;
@@ -63,22 +66,32 @@ pub fn lawful_state(h: &[u32]) -> bool
     requires { ⌜ length (now h) ≡ headerWords ⌝ }
     ensures { λ r. ⌜ ((s : State) → headerOf s ≡ now (h .entry) → r ≡ lawfulState s) ⌝ }
 {
-    if h[0] != 1 {
+    if h[HeaderOffsets::OPENED] != OPEN {
         return false;
     }
-    if !within(1, State::PROCESSES, h[1]) {
+    if !within(1, State::PROCESSES, h[HeaderOffsets::PROCESSES]) {
         return false;
     }
-    if !within(1, State::EVENTS, h[2]) {
+    if !within(1, State::EVENTS, h[HeaderOffsets::LIMIT]) {
         return false;
     }
-    if h[2] < h[3] {
+    if h[HeaderOffsets::LIMIT] < h[HeaderOffsets::EVENTS] {
         return false;
     }
-    if !holds(h[4], State::NODE_WORDS, State::NODES, h[6]) {
+    if !holds(
+        h[HeaderOffsets::NODE_LENGTH],
+        State::NODE_WORDS,
+        State::NODES,
+        h[HeaderOffsets::NODES],
+    ) {
         return false;
     }
-    holds(h[5], State::VERSION_WORDS, State::VERSIONS, h[7])
+    holds(
+        h[HeaderOffsets::VERSION_LENGTH],
+        State::VERSION_WORDS,
+        State::VERSIONS,
+        h[HeaderOffsets::VERSIONS],
+    )
 }
 
 // The state is lawful, and the tables lent are of its lengths.
@@ -89,8 +102,8 @@ pub fn lawful_store(h: &[u32], nodes: &[u32], versions: &[u32]) -> bool
     if !lawful_state(h) {
         return false;
     }
-    if nodes.len() != wide(h[4]) {
+    if nodes.len() != wide(h[HeaderOffsets::NODE_LENGTH]) {
         return false;
     }
-    versions.len() == wide(h[5])
+    versions.len() == wide(h[HeaderOffsets::VERSION_LENGTH])
 }

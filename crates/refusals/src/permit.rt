@@ -15,9 +15,11 @@ use crate::lawful::lawful_nodes;
 use crate::lawful::lawful_state;
 use crate::lawful::lawful_store;
 use crate::lawful::lawful_versions;
+use layout::head::HeaderOffsets;
 use layout::head::header_of;
 use model::bounds::within;
 use model::roles::is_idle;
+use model::types::Key;
 use model::types::Kind;
 use model::types::Permit;
 use model::types::Refusal;
@@ -59,16 +61,16 @@ pub fn start_permit(
     nodes: &[u32],
     versions: &[u32],
     process: u32,
-    key: u64,
+    key: Key,
 ) -> Permit
     requires { ⌜ length (now h) ≡ headerWords ⌝ }
     ensures { λ r. ⌜ ((s : State) → Shows s process (now (h .entry)) kind → r ≡ startPermit s (now (nodes .entry)) (now (versions .entry)) process key) ⌝ }
 {
     let lawful = lawful_store(h, nodes, versions);
-    let no_process = h[1] <= process;
+    let no_process = h[HeaderOffsets::PROCESSES] <= process;
     let in_range = lawful_key(key);
     let idle = is_idle(kind);
-    let spent = h[2] <= h[3];
+    let spent = h[HeaderOffsets::LIMIT] <= h[HeaderOffsets::EVENTS];
     let nine = deny_if(spent, Refusal::Spent, Permit::Granted);
     let seven = deny_unless(idle, Refusal::Busy, nine);
     let six = deny_unless(in_range, Refusal::BadKey, seven);
@@ -94,19 +96,19 @@ pub fn step_permit(
     if tally.len() != State::ANSWERS as usize {
         return Permit::Denied(Refusal::Corrupt);
     }
-    if h[1] <= process {
+    if h[HeaderOffsets::PROCESSES] <= process {
         return Permit::Denied(Refusal::NoProcess);
     }
     if is_idle(kind) {
         return Permit::Denied(Refusal::NoCall);
     }
-    if h[2] <= h[3] {
+    if h[HeaderOffsets::LIMIT] <= h[HeaderOffsets::EVENTS] {
         return Permit::Denied(Refusal::Spent);
     }
     Permit::Granted
 }
 
-pub fn look_permit(h: &[u32], nodes: &[u32], versions: &[u32], key: u64) -> Permit
+pub fn look_permit(h: &[u32], nodes: &[u32], versions: &[u32], key: Key) -> Permit
     requires { ⌜ length (now h) ≡ headerWords ⌝ }
     ensures { λ r. ⌜ ((s : State) → headerOf s ≡ now (h .entry) → r ≡ lookPermit s (now (nodes .entry)) (now (versions .entry)) key) ⌝ }
 {
@@ -121,7 +123,7 @@ pub fn status_permit(h: &[u32], process: u32) -> Permit
     ensures { λ r. ⌜ ((s : State) → headerOf s ≡ now (h .entry) → r ≡ statusPermit s process) ⌝ }
 {
     let lawful = lawful_state(h);
-    let no_process = h[1] <= process;
+    let no_process = h[HeaderOffsets::PROCESSES] <= process;
     let five = deny_if(no_process, Refusal::NoProcess, Permit::Granted);
     deny_unless(lawful, Refusal::Corrupt, five)
 }

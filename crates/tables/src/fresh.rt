@@ -3,6 +3,7 @@ ghost use mathlib.Core.Path.{_≡_};
 ghost use Prim.Native.Nat.{_≤_};
 ghost use lib.ListN.{length, replicate};
 ghost use Rattle.model.specs.Layout.{nodeWords, freshNodes};
+use model::types::NodeOffsets;
 use model::types::State;
 
 // Zeroes all words.
@@ -22,5 +23,5 @@ pub fn clear_nodes(nodes: &mut [u32])
     ensures { λ r. ⌜ now (nodes .exit) ≡ freshNodes (length (now (nodes .entry))) ⌝ }
 {
     clear(nodes);
-    nodes[2] = State::TOP;
+    nodes[NodeOffsets::TOP] = State::TOP;
 }

@@ -1,4 +1,4 @@
-// The node table: sixteen words a node.
+// The node table.
 ghost use mathlib.Core.Path.{_≡_};
 ghost use mathlib.Core.List.{List};
 ghost use Prim.Native.Nat.{ℕ, _<_};
@@ -11,34 +11,38 @@ use model::halves::high_half;
 use model::halves::joined;
 use model::halves::low_half;
 use model::types::Ahead;
+use model::types::Key;
+use model::types::NodeOffsets;
+use model::types::State;
+
+// `State::NODE_WORDS`, to reckon an index with.
+const NODE_WORDS: usize = State::NODE_WORDS as usize;
 
 // Word `field` of a node.
-fn word_at(nodes: &[u32], node: u32, field: u32) -> u32
+fn word_at(nodes: &[u32], node: u32, field: usize) -> u32
     requires { ⌜ NodeRoom (now nodes) node ⌝ }
     requires { ⌜ field < nodeWords ⌝ }
     ensures { λ r. ⌜ r ≡ word (now (nodes .entry)) node field ⌝ }
 {
     let x = node as usize;
-    let f = field as usize;
-    nodes[16 * x + f]
+    nodes[NODE_WORDS * x + field]
 }
 
-fn set_word(nodes: &mut [u32], node: u32, field: u32, to: u32)
+fn set_word(nodes: &mut [u32], node: u32, field: usize, to: u32)
     requires { ⌜ NodeRoom (now nodes) node ⌝ }
     requires { ⌜ field < nodeWords ⌝ }
     ensures { λ r. ⌜ now (nodes .exit) ≡ withWord (now (nodes .entry)) node field to ⌝ }
 {
     let x = node as usize;
-    let f = field as usize;
-    nodes[16 * x + f] = to;
+    nodes[NODE_WORDS * x + field] = to;
 }
 
-pub fn key_at(nodes: &[u32], node: u32) -> u64
+pub fn key_at(nodes: &[u32], node: u32) -> Key
     requires { ⌜ NodeRoom (now nodes) node ⌝ }
     ensures { λ r. ⌜ r ≡ key (now (nodes .entry)) node ⌝ }
 {
-    let low = word_at(nodes, node, 0);
-    let high = word_at(nodes, node, 3);
+    let low = word_at(nodes, node, NodeOffsets::KEY_LOW);
+    let high = word_at(nodes, node, NodeOffsets::KEY_HIGH);
     joined(low, high)
 }
 
@@ -46,83 +50,83 @@ pub fn newest_at(nodes: &[u32], node: u32) -> u32
     requires { ⌜ NodeRoom (now nodes) node ⌝ }
     ensures { λ r. ⌜ r ≡ newest (now (nodes .entry)) node ⌝ }
 {
-    word_at(nodes, node, 1)
+    word_at(nodes, node, NodeOffsets::NEWEST)
 }
 
 pub fn top_at(nodes: &[u32], node: u32) -> u32
     requires { ⌜ NodeRoom (now nodes) node ⌝ }
     ensures { λ r. ⌜ r ≡ top (now (nodes .entry)) node ⌝ }
 {
-    word_at(nodes, node, 2)
+    word_at(nodes, node, NodeOffsets::TOP)
 }
 
 pub fn next_at(nodes: &[u32], level: u32, node: u32) -> u32
     requires { ⌜ LevelRoom (now nodes) level node ⌝ }
     ensures { λ r. ⌜ r ≡ next (now (nodes .entry)) level node ⌝ }
 {
-    word_at(nodes, node, 4 + level)
+    word_at(nodes, node, NodeOffsets::LINKS + level as usize)
 }
 
 pub fn lock_at(nodes: &[u32], level: u32, node: u32) -> u32
     requires { ⌜ LevelRoom (now nodes) level node ⌝ }
     ensures { λ r. ⌜ r ≡ lock (now (nodes .entry)) level node ⌝ }
 {
-    word_at(nodes, node, 10 + level)
+    word_at(nodes, node, NodeOffsets::LOCKS + level as usize)
 }
 
 pub fn set_newest(nodes: &mut [u32], node: u32, version: u32)
     requires { ⌜ NodeRoom (now nodes) node ⌝ }
     ensures { λ r. ⌜ now (nodes .exit) ≡ withNewest (now (nodes .entry)) node version ⌝ }
 {
-    set_word(nodes, node, 1, version);
+    set_word(nodes, node, NodeOffsets::NEWEST, version);
 }
 
 pub fn set_next(nodes: &mut [u32], level: u32, node: u32, to: u32)
     requires { ⌜ LevelRoom (now nodes) level node ⌝ }
     ensures { λ r. ⌜ now (nodes .exit) ≡ withNext (now (nodes .entry)) level node to ⌝ }
 {
-    set_word(nodes, node, 4 + level, to);
+    set_word(nodes, node, NodeOffsets::LINKS + level as usize, to);
 }
 
 pub fn set_lock(nodes: &mut [u32], level: u32, node: u32, holder: u32)
     requires { ⌜ LevelRoom (now nodes) level node ⌝ }
     ensures { λ r. ⌜ now (nodes .exit) ≡ withLock (now (nodes .entry)) level node holder ⌝ }
 {
-    set_word(nodes, node, 10 + level, holder);
+    set_word(nodes, node, NodeOffsets::LOCKS + level as usize, holder);
 }
 
-// The sixteen words of one node.
-fn fill_node(part: &mut [u32], key: u64, version: u32, top: u32, next: u32)
+// The words of one node, each once.
+fn fill_node(part: &mut [u32], key: Key, version: u32, top: u32, next: u32)
     requires { ⌜ length (now part) ≡ nodeWords ⌝ }
     ensures { λ r. ⌜ now (part .exit) ≡ nodeRecord key version top next ⌝ }
 {
     let low = low_half(key);
     let high = high_half(key);
-    part[0] = low;
-    part[1] = version;
-    part[2] = top;
-    part[3] = high;
-    part[4] = next;
-    part[5] = 0;
-    part[6] = 0;
-    part[7] = 0;
-    part[8] = 0;
-    part[9] = 0;
-    part[10] = 0;
-    part[11] = 0;
-    part[12] = 0;
-    part[13] = 0;
-    part[14] = 0;
-    part[15] = 0;
+    part[NodeOffsets::KEY_LOW] = low;
+    part[NodeOffsets::NEWEST] = version;
+    part[NodeOffsets::TOP] = top;
+    part[NodeOffsets::KEY_HIGH] = high;
+    part[NodeOffsets::LINKS] = next;
+    part[NodeOffsets::LINKS + 1] = 0;
+    part[NodeOffsets::LINKS + 2] = 0;
+    part[NodeOffsets::LINKS + 3] = 0;
+    part[NodeOffsets::LINKS + 4] = 0;
+    part[NodeOffsets::LINKS + 5] = 0;
+    part[NodeOffsets::LOCKS] = 0;
+    part[NodeOffsets::LOCKS + 1] = 0;
+    part[NodeOffsets::LOCKS + 2] = 0;
+    part[NodeOffsets::LOCKS + 3] = 0;
+    part[NodeOffsets::LOCKS + 4] = 0;
+    part[NodeOffsets::LOCKS + 5] = 0;
 }
 
 // A new node: its part of the table is lent to the writer of one node.
-pub fn write_node(nodes: &mut [u32], node: u32, key: u64, version: u32, top: u32, next: u32)
+pub fn write_node(nodes: &mut [u32], node: u32, key: Key, version: u32, top: u32, next: u32)
     requires { ⌜ NodeRoom (now nodes) node ⌝ }
     ensures { λ r. ⌜ now (nodes .exit) ≡ withNode (now (nodes .entry)) node key version top next ⌝ }
 {
-    let from = 16 * (node as usize);
-    let to = from + 16;
+    let from = NODE_WORDS * (node as usize);
+    let to = from + NODE_WORDS;
     fill_node(&mut nodes[from..to], key, version, top, next);
 }
 
@@ -132,12 +136,12 @@ pub fn nodes_full(nodes: &[u32], used: u32) -> bool
     ensures { λ r. ⌜ r ≡ leb (capacity nodeWords (length (now (nodes .entry)))) used ⌝ }
 {
     let last = used as usize;
-    let most = nodes.len() / 16 - 1;
+    let most = nodes.len() / NODE_WORDS - 1;
     most <= last
 }
 
 // Where the link of a node leads, against a key; `used` is the last node in use.
-pub fn ahead(nodes: &[u32], used: u32, level: u32, pred: u32, key: u64) -> Ahead
+pub fn ahead(nodes: &[u32], used: u32, level: u32, pred: u32, key: Key) -> Ahead
     requires { ⌜ LevelRoom (now nodes) level pred ⌝ }
     requires { ⌜ NodeRoom (now nodes) used ⌝ }
     ensures { λ r. ⌜ ((versions : List ℕ) (n : ℕ) → r ≡ ahead (nodesIn (now (nodes .entry)) used versions n) level pred key) ⌝ }

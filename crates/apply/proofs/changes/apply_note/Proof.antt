@@ -1,7 +1,8 @@
 -- The predecessor is written at its level, then the cursor: `notes`.
 use Prim.Native.Nat.{_+_}
 use mathlib.Core.Path.{_∙_}
-use lib.ListN.{getD, length-set}
+use lib.ListN.{length-set}
+use Rattle.process.specs.ProcessWords.{processOffsets, processFrom}
 use Rattle.apply.proofs.Applied.{notes}
 use borrow.Author.Needs.{needs}
 use Rattle.apply.proofs.changes.apply_note.Statement.{statement}
@@ -31,7 +32,7 @@ put-cursor-requires c κs = search needs
 same-length : tie.Need-same-length
 same-length c =
     let w = c .before .before .before .before .before .before .before .args .w .now in
-    c .before .before .put-cursor .kept .0 ∙ length-set w (13 + getD w 8 0) (getD w 9 0)
+    c .before .before .put-cursor .kept .0 ∙ length-set w (processOffsets .preds + processFrom w .cursor .level) (processFrom w .cursor .pred)
 
 returns : tie.Need-returns
 returns c tick =

@@ -5,6 +5,7 @@ use native.Mathlib.Omega.{arith}
 use lib.ListN.{drop}
 use borrow.Author.Needs.{needs}
 use borrow.Author.Tests.{not-true, not-false}
+use Rattle.model.specs.Layout.{limits}
 use Rattle.process.specs.ProcessWords.{sizes}
 use Rattle.layout.specs.StateWords.{allKnown}
 use Rattle.layout.proofs.Known.{unknown-first, known-first, none-left}
@@ -12,7 +13,7 @@ use Rattle.layout.proofs.state.all_known.Statement.{statement}
 use Rattle.layout.proofs.state.all_known.Tie as tie
 
 abbrev Inv-loop : tie.InvT-loop
-Inv-loop words at₀ left₀ at left = (at + sizes .process * left ≡ sizes .state) × (allKnown left (drop at words) ≡ allKnown 8 (drop (sizes .head) words))
+Inv-loop words at₀ left₀ at left = (at + sizes .process * left ≡ sizes .state) × (allKnown left (drop at words) ≡ allKnown (limits .processes) (drop (sizes .head) words))
 
 abbrev μ-loop : tie.MeasureT-loop
 μ-loop words at₀ left₀ at left = left

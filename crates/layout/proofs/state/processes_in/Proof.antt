@@ -5,6 +5,7 @@ use native.Mathlib.Omega.{arith}
 use lib.ListN.{length, take, drop, length-set}
 use lib.Seq.{take-all}
 use borrow.Author.Needs.{needs}
+use Rattle.model.specs.Layout.{limits}
 use Rattle.process.specs.ProcessWords.{sizes, processFrom}
 use Rattle.layout.specs.StateWords.{allFrom}
 use Rattle.layout.proofs.Known.{part-is}
@@ -14,10 +15,10 @@ use Rattle.layout.proofs.state.processes_in.Tie as tie
 
 abbrev Inv-loop : tie.InvT-loop
 Inv-loop words process₀ at₀ i₀ process at i =
-    (i ≤ 8) × (at ≡ sizes .head + sizes .process * i) × (take i process ≡ allFrom i (drop (sizes .head) words)) × (length process ≡ 8)
+    (i ≤ limits .processes) × (at ≡ sizes .head + sizes .process * i) × (take i process ≡ allFrom i (drop (sizes .head) words)) × (length process ≡ limits .processes)
 
 abbrev μ-loop : tie.MeasureT-loop
-μ-loop words process₀ at₀ i₀ process at i = 8 - i
+μ-loop words process₀ at₀ i₀ process at i = limits .processes - i
 
 idle-requires : tie.Need-idle-requires Inv-loop μ-loop
 idle-requires c κs = search needs
@@ -74,7 +75,7 @@ returns : tie.Need-returns Inv-loop μ-loop
 returns c =
     let l = c .before .loop in
     let w = c .before .before .before .before .args .words .now in
-    let e : l .i ≡ 8 = omega arith in
+    let e : l .i ≡ limits .processes = omega arith in
     sym (take-all (l .i) (l .process) (omega (arith, l .inv .3))) ∙ l .inv .2 ∙ ap (λ n. allFrom n (drop (sizes .head) w)) e
 
 pub processes-in-spec : {M : Type 1} → statement M

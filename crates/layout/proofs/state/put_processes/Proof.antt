@@ -5,6 +5,7 @@ use mathlib.Core.Path.{_≡_, refl, sym, _∙_}
 use native.Mathlib.Omega.{arith}
 use lib.ListN.{length, take}
 use borrow.Author.Needs.{needs}
+use Rattle.model.specs.Layout.{limits}
 use Rattle.process.specs.ProcessWords.{sizes}
 use Rattle.layout.specs.StateWords.{allWords}
 use Rattle.layout.proofs.Known.{part-long}
@@ -14,10 +15,10 @@ use Rattle.layout.proofs.state.put_processes.Tie as tie
 
 abbrev Inv-loop : tie.InvT-loop
 Inv-loop words₀ process at₀ i₀ words at i =
-    (i ≤ 8) × (at ≡ sizes .head + sizes .process * i) × (length words ≡ sizes .state) × (take (sizes .head + sizes .process * i) words ≡ take (sizes .head) words₀ ++ allWords (take i process))
+    (i ≤ limits .processes) × (at ≡ sizes .head + sizes .process * i) × (length words ≡ sizes .state) × (take (sizes .head + sizes .process * i) words ≡ take (sizes .head) words₀ ++ allWords (take i process))
 
 abbrev μ-loop : tie.MeasureT-loop
-μ-loop words₀ process at₀ i₀ words at i = 8 - i
+μ-loop words₀ process at₀ i₀ words at i = limits .processes - i
 
 loop-holds : tie.Need-loop-holds Inv-loop μ-loop
 unfolding allWords
@@ -60,7 +61,7 @@ loop-again : tie.Need-loop-again Inv-loop μ-loop
 loop-again c =
     let l = c .before .before .before .before .before .before .loop in
     let a = c .before .before .before .before .before .before .before .before .args in
-    let eight : length (a .t2) ≡ 8 = search needs in
+    let eight : length (a .t2) ≡ limits .processes = search needs in
     let long = c .before .before .put-process .kept .0 ∙ part-long (l .words) (l .at) (omega arith) in
     let f = write-next (take (sizes .head) (a .words .now)) (a .t2) eight (l .words) _ (l .at) (l .i) _
     (c .before .before .before .before .before .loop-test .taken) (l .inv .1) (l .inv .2) long
@@ -74,7 +75,7 @@ returns : tie.Need-returns Inv-loop μ-loop
 returns c =
     let l = c .before .loop in
     let a = c .before .before .before .args in
-    let eight : length (a .t2) ≡ 8 = search needs in
+    let eight : length (a .t2) ≡ limits .processes = search needs in
     write-all (take (sizes .head) (a .words .now)) (a .t2) eight (l .words) (l .i) (omega arith) (l .inv .0) (l .inv .2) (l .inv .3)
 
 pub put-processes-spec : {M : Type 1} → statement M

@@ -1,6 +1,7 @@
 -- Each word is written once.
 use mathlib.Core.Path.{_≡_}
 use lib.ListN.{length}
+use Rattle.model.specs.Layout.{levels}
 use Rattle.process.proofs.RoundTrip.{over-written}
 use borrow.Author.Needs.{needs}
 use Rattle.process.proofs.words.put_process.Statement.{statement}
@@ -25,7 +26,7 @@ returns : tie.Need-returns
 returns c =
     let a = c .before .before .before .before .before .before .before .before .before .before .before .before .before .before .before
     .before .before .before .before .before .before in
-    let six : length (a .args .p .preds) ≡ 6 = search needs in
+    let long : length (a .args .p .preds) ≡ levels = search needs in
     simp (
       c .before .before .put-preds .ensures,
       c .before .before .before .before .before .before .put-effect .ensures,
@@ -33,7 +34,7 @@ returns c =
       c .before .before .before .before .before .before .before .before .before .before .before .before .before .before .put-call
           .ensures,
     )
-    (over-written (a .args .w .now) (a .args .p) (a .pre) six)
+    (over-written (a .args .w .now) (a .args .p) (a .pre) long)
 
 pub put-process-spec : {M : Type 1} → statement M
 put-process-spec =

@@ -2,6 +2,7 @@
 use mathlib.Core.List.{_++_}
 use mathlib.Core.Path.{_≡_, ap}
 use lib.ListN.{length}
+use Rattle.model.specs.Layout.{levels}
 use Rattle.process.specs.ProcessWords.{callWords, cursorWords, effectWords}
 use Rattle.process.proofs.Heads.{spelt}
 use borrow.Author.Needs.{needs}
@@ -44,7 +45,7 @@ array-read-t31 c = search needs
 returns : tie.Need-returns
 returns c =
     let p = c .before .before .before .before .before .before .before .before .before .args .p in
-    let six : length (p .preds) ≡ 6 = search needs in
+    let long : length (p .preds) ≡ levels = search needs in
     simp (
       c .place-of .ensures,
       c .before .phase-number .ensures,
@@ -52,7 +53,7 @@ returns c =
       c .before .before .before .low-half .ensures,
       c .before .before .before .before .kind-number .ensures,
     )
-    (ap (λ preds. callWords (p .call) ++ cursorWords (p .cursor) ++ effectWords (p .effect) ++ preds) (spelt 6 (p .preds) six))
+    (ap (λ preds. callWords (p .call) ++ cursorWords (p .cursor) ++ effectWords (p .effect) ++ preds) (spelt levels (p .preds) long))
 
 pub words-of-spec : {M : Type 1} → statement M
 words-of-spec =

@@ -1,18 +1,31 @@
 -- The tests are the definition's, table by table, left at the first that fails.
+use Prim.Native.Nat.{ℕ}
 use mathlib.Core.Bool.{Bool, true, false, _&&_}
+use mathlib.Core.List.{List}
 use mathlib.Core.Path.{_≡_, refl, sym, ap, _∙_}
 use lib.Dec.{leb, eqb}
 use lib.ListN.{getD}
 use borrow.Author.Tests.{not-true, not-false, le-leb, lt-leb, eq-eqb, ne-eqb}
-use Rattle.model.specs.Layout.{nodeWords, versionWords, capacity}
+use Rattle.model.specs.Layout.{limits, nodeWords, versionWords, capacity}
 use Rattle.model.specs.State.{within, lawfulNodes, lawfulVersions, lawfulState}
-use Rattle.layout.specs.Head.{bit}
+use Rattle.layout.specs.Head.{bit, headerOffsets}
 use Rattle.refusals.proofs.Laws.{and-false, in-pairs}
 use borrow.Author.Needs.{needs}
 use Rattle.refusals.proofs.lawful.lawful_state.Statement.{statement}
 use Rattle.refusals.proofs.lawful.lawful_state.Tie as tie
 
-is-open : (b : Bool) → eqb (bit b) 1 ≡ b
+-- what the tests of a table read of the header
+abbrev nodesFit : List ℕ → Bool
+nodesFit h =
+    let n = getD h (headerOffsets .nodelength) 0 in
+    lawfulNodes n && leb (getD h (headerOffsets .nodes) 0) (capacity nodeWords n)
+
+abbrev versionsFit : List ℕ → Bool
+versionsFit h =
+    let n = getD h (headerOffsets .versionlength) 0 in
+    lawfulVersions n && leb (getD h (headerOffsets .versions) 0) (capacity versionWords n)
+
+is-open : (b : Bool) → eqb (bit b) (bit true) ≡ b
 is-open true = refl
 is-open false = refl
 
@@ -22,7 +35,7 @@ shared-slice-read-if1 c = search needs
 returns : tie.Need-returns
 unfolding lawfulState
 returns c =
-    λ s e. simp (sym (is-open (s .opened)) ∙ ap (λ h. eqb (getD h 0 0) 1) e ∙ ne-eqb _ _ (c .if1 .taken))
+    λ s e. simp (sym (is-open (s .opened)) ∙ ap (λ h. eqb (getD h (headerOffsets .opened) 0) (bit true)) e ∙ ne-eqb _ _ (c .if1 .taken))
 
 shared-slice-read-within : tie.Need-shared-slice-read-within
 shared-slice-read-within c = search needs
@@ -35,7 +48,7 @@ unfolding lawfulState
 returns-2 c =
     λ s e.
     simp (
-      ap (λ h. within 1 8 (getD h 1 0)) e ∙ sym (c .before .within .ensures) ∙ not-true _ (c .if2 .taken),
+      ap (λ h. within 1 (limits .processes) (getD h (headerOffsets .processes) 0)) e ∙ sym (c .before .within .ensures) ∙ not-true _ (c .if2 .taken),
       and-false,
     )
 
@@ -50,7 +63,7 @@ unfolding lawfulState
 returns-3 c =
     λ s e.
     simp (
-      ap (λ h. within 1 1000000000 (getD h 2 0)) e ∙ sym (c .before .within2 .ensures) ∙ not-true _ (c .if3 .taken),
+      ap (λ h. within 1 (limits .events) (getD h (headerOffsets .limit) 0)) e ∙ sym (c .before .within2 .ensures) ∙ not-true _ (c .if3 .taken),
       and-false,
     )
 
@@ -65,7 +78,7 @@ unfolding lawfulState
 returns-4 c =
     λ s e.
     simp (
-      ap (λ h. leb (getD h 3 0) (getD h 2 0)) e ∙ lt-leb _ _ (c .if4 .taken),
+      ap (λ h. leb (getD h (headerOffsets .events) 0) (getD h (headerOffsets .limit) 0)) e ∙ lt-leb _ _ (c .if4 .taken),
       and-false,
     )
 
@@ -84,7 +97,7 @@ returns-5 c =
     λ s e.
     rw (in-pairs _ (lawfulNodes (s .lengths .nodes)))
     (simp (
-      ap (λ h. lawfulNodes (getD h 4 0) && leb (getD h 6 0) (capacity nodeWords (getD h 4 0))) e
+      ap nodesFit e
           ∙ sym (c .before .holds .ensures) ∙ not-true _ (c .if5 .taken),
       and-false,
     ))
@@ -109,15 +122,15 @@ returns-6 c =
     let one = two .before .before .before in
     rw (in-pairs _ (lawfulNodes (s .lengths .nodes)))
     (simp (
-      sym (is-open (s .opened)) ∙ ap (λ h. eqb (getD h 0 0) 1) e ∙ eq-eqb _ _ (one .if1 .left),
-      ap (λ h. within 1 8 (getD h 1 0)) e ∙ sym (two .before .within .ensures) ∙ not-false _ (two .if2 .left),
-      ap (λ h. within 1 1000000000 (getD h 2 0)) e ∙ sym (three .before .within2 .ensures) ∙ not-false _ (three .if3 .left),
-      ap (λ h. leb (getD h 3 0) (getD h 2 0)) e ∙ le-leb _ _ (four .if4 .left),
-      ap (λ h. lawfulNodes (getD h 4 0) && leb (getD h 6 0) (capacity nodeWords (getD h 4 0))) e
+      sym (is-open (s .opened)) ∙ ap (λ h. eqb (getD h (headerOffsets .opened) 0) (bit true)) e ∙ eq-eqb _ _ (one .if1 .left),
+      ap (λ h. within 1 (limits .processes) (getD h (headerOffsets .processes) 0)) e ∙ sym (two .before .within .ensures) ∙ not-false _ (two .if2 .left),
+      ap (λ h. within 1 (limits .events) (getD h (headerOffsets .limit) 0)) e ∙ sym (three .before .within2 .ensures) ∙ not-false _ (three .if3 .left),
+      ap (λ h. leb (getD h (headerOffsets .events) 0) (getD h (headerOffsets .limit) 0)) e ∙ le-leb _ _ (four .if4 .left),
+      ap nodesFit e
           ∙ sym (five .before .holds .ensures) ∙ not-false _ (five .if5 .left),
     )
     (c .holds2 .ensures
-    ∙ sym (ap (λ h. lawfulVersions (getD h 5 0) && leb (getD h 7 0) (capacity versionWords (getD h 5 0))) e)))
+    ∙ sym (ap versionsFit e)))
 
 pub lawful-state-spec : {M : Type 1} → statement M
 lawful-state-spec =

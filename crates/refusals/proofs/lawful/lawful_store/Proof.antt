@@ -4,6 +4,7 @@ use lib.Dec.{eqb}
 use lib.ListN.{length, getD}
 use borrow.Author.Tests.{not-true, not-false, eq-eqb, ne-eqb}
 use Rattle.model.specs.State.{lawfulStore}
+use Rattle.layout.specs.Head.{headerOffsets}
 use borrow.Author.Needs.{needs}
 use Rattle.refusals.proofs.lawful.lawful_store.Statement.{statement}
 use Rattle.refusals.proofs.lawful.lawful_store.Tie as tie
@@ -28,7 +29,7 @@ returns-2 c =
     let n = length (c .before .before .before .before .before .before .before .before .args .nodes .now) in
     simp (
       sym (c .before .before .before .before .lawful-state .ensures s e) ∙ not-false _ (c .before .before .before .if1 .left),
-      ap (λ h. eqb n (getD h 4 0)) e ∙ sym (ap (eqb n) (c .before .wide .ensures)) ∙ ne-eqb _ _ (c .if2 .taken),
+      ap (λ h. eqb n (getD h (headerOffsets .nodelength) 0)) e ∙ sym (ap (eqb n) (c .before .wide .ensures)) ∙ ne-eqb _ _ (c .if2 .taken),
     )
 
 shared-slice-read-wide-2 : tie.Need-shared-slice-read-wide-2
@@ -48,9 +49,9 @@ returns-3 c =
     let v = length (a .versions .now) in
     simp (
       sym (one .before .lawful-state .ensures s e) ∙ not-false _ (one .if1 .left),
-      ap (λ h. eqb n (getD h 4 0)) e ∙ sym (ap (eqb n) (two .before .wide .ensures)) ∙ eq-eqb _ _ (two .if2 .left),
+      ap (λ h. eqb n (getD h (headerOffsets .nodelength) 0)) e ∙ sym (ap (eqb n) (two .before .wide .ensures)) ∙ eq-eqb _ _ (two .if2 .left),
     )
-    (ap (eqb v) (c .wide2 .ensures) ∙ ap (λ h. eqb v (getD h 5 0)) (sym e))
+    (ap (eqb v) (c .wide2 .ensures) ∙ ap (λ h. eqb v (getD h (headerOffsets .versionlength) 0)) (sym e))
 
 pub lawful-store-spec : {M : Type 1} → statement M
 lawful-store-spec =

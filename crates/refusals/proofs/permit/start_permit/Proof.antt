@@ -2,6 +2,7 @@
 use mathlib.Core.Path.{ap}
 use lib.Dec.{leb}
 use lib.ListN.{getD}
+use Rattle.layout.specs.Head.{headerOffsets}
 use Rattle.refusals.proofs.Laws.{start-kind}
 use borrow.Author.Needs.{needs}
 use Rattle.refusals.proofs.permit.start_permit.Statement.{statement}
@@ -55,8 +56,8 @@ returns c =
       c .before .before .before .before .before .before .before .is-idle .ensures,
       c .before .before .before .before .before .before .before .before .lawful-key .ensures,
       c .before .before .before .before .before .before .before .before .before .before .lawful-store .ensures s (e .same),
-      ap (λ h. leb (getD h 1 0) (a .process)) (e .same),
-      ap (λ h. leb (getD h 2 0) (getD h 3 0)) (e .same),
+      ap (λ h. leb (getD h (headerOffsets .processes) 0) (a .process)) (e .same),
+      ap (λ h. leb (getD h (headerOffsets .limit) 0) (getD h (headerOffsets .events) 0)) (e .same),
     )
 
 pub start-permit-spec : {M : Type 1} → statement M

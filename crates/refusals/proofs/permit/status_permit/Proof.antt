@@ -3,6 +3,7 @@ use mathlib.Core.Path.{ap}
 use lib.Dec.{leb}
 use lib.ListN.{getD}
 use Rattle.model.specs.Calls.{statusPermit}
+use Rattle.layout.specs.Head.{headerOffsets}
 use borrow.Author.Needs.{needs}
 use Rattle.refusals.proofs.permit.status_permit.Statement.{statement}
 use Rattle.refusals.proofs.permit.status_permit.Tie as tie
@@ -28,7 +29,7 @@ returns c =
       c .deny-unless .ensures,
       c .before .deny-if .ensures,
       c .before .before .before .lawful-state .ensures s e,
-      ap (λ h. leb (getD h 1 0) (a .process)) e,
+      ap (λ h. leb (getD h (headerOffsets .processes) 0) (a .process)) e,
     )
 
 pub status-permit-spec : {M : Type 1} → statement M

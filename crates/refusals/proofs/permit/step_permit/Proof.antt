@@ -3,6 +3,7 @@ use mathlib.Core.Path.{sym, ap, _∙_}
 use lib.Dec.{leb}
 use lib.ListN.{getD}
 use borrow.Author.Tests.{not-true, not-false, le-leb, lt-leb, eq-eqb, ne-eqb}
+use Rattle.layout.specs.Head.{headerOffsets}
 use Rattle.refusals.proofs.Laws.{step-kind}
 use borrow.Author.Needs.{needs}
 use Rattle.refusals.proofs.permit.step_permit.Statement.{statement}
@@ -48,7 +49,7 @@ returns-3 c =
       sym (c .before .before .before .before .lawful-store .ensures s (e .same))
           ∙ not-false _ (c .before .before .before .if1 .left),
       eq-eqb _ _ (c .before .before .if2 .left),
-      ap (λ h. leb (getD h 1 0) (a .process)) (e .same) ∙ le-leb _ _ (c .if3 .taken),
+      ap (λ h. leb (getD h (headerOffsets .processes) 0) (a .process)) (e .same) ∙ le-leb _ _ (c .if3 .taken),
     )
 
 is-idle-requires : tie.Need-is-idle-requires
@@ -64,7 +65,7 @@ returns-4 c =
       sym (c .before .before .before .before .before .before .lawful-store .ensures s (e .same))
           ∙ not-false _ (c .before .before .before .before .before .if1 .left),
       eq-eqb _ _ (c .before .before .before .before .if2 .left),
-      ap (λ h. leb (getD h 1 0) (a .process)) (e .same) ∙ lt-leb _ _ (c .before .before .if3 .left),
+      ap (λ h. leb (getD h (headerOffsets .processes) 0) (a .process)) (e .same) ∙ lt-leb _ _ (c .before .before .if3 .left),
       sym (c .before .is-idle .ensures) ∙ c .if4 .taken,
     )
 
@@ -84,9 +85,9 @@ returns-5 c =
       sym (c .before .before .before .before .before .before .before .before .before .lawful-store .ensures s (e .same))
           ∙ not-false _ (c .before .before .before .before .before .before .before .before .if1 .left),
       eq-eqb _ _ (c .before .before .before .before .before .before .before .if2 .left),
-      ap (λ h. leb (getD h 1 0) (a .process)) (e .same) ∙ lt-leb _ _ (c .before .before .before .before .before .if3 .left),
+      ap (λ h. leb (getD h (headerOffsets .processes) 0) (a .process)) (e .same) ∙ lt-leb _ _ (c .before .before .before .before .before .if3 .left),
       sym (c .before .before .before .before .is-idle .ensures) ∙ c .before .before .before .if4 .left,
-      ap (λ h. leb (getD h 2 0) (getD h 3 0)) (e .same) ∙ le-leb _ _ (c .if5 .taken),
+      ap (λ h. leb (getD h (headerOffsets .limit) 0) (getD h (headerOffsets .events) 0)) (e .same) ∙ le-leb _ _ (c .if5 .taken),
     )
 
 returns-6 : tie.Need-returns-6
@@ -99,9 +100,9 @@ returns-6 c =
       sym (c .before .before .before .before .before .before .before .before .before .lawful-store .ensures s (e .same))
           ∙ not-false _ (c .before .before .before .before .before .before .before .before .if1 .left),
       eq-eqb _ _ (c .before .before .before .before .before .before .before .if2 .left),
-      ap (λ h. leb (getD h 1 0) (a .process)) (e .same) ∙ lt-leb _ _ (c .before .before .before .before .before .if3 .left),
+      ap (λ h. leb (getD h (headerOffsets .processes) 0) (a .process)) (e .same) ∙ lt-leb _ _ (c .before .before .before .before .before .if3 .left),
       sym (c .before .before .before .before .is-idle .ensures) ∙ c .before .before .before .if4 .left,
-      ap (λ h. leb (getD h 2 0) (getD h 3 0)) (e .same) ∙ lt-leb _ _ (c .if5 .left),
+      ap (λ h. leb (getD h (headerOffsets .limit) 0) (getD h (headerOffsets .events) 0)) (e .same) ∙ lt-leb _ _ (c .if5 .left),
     )
 
 pub step-permit-spec : {M : Type 1} → statement M

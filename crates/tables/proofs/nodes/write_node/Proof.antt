@@ -1,6 +1,6 @@
 -- What the writer of one node leaves in its part, said of the whole table.
 use Rattle.tables.proofs.Lists.{part-back}
-use Rattle.model.specs.Layout.{nodeRecord, withNode}
+use Rattle.model.specs.Layout.{nodeWords, nodeRecord, withNode}
 use mathlib.Core.Path.{refl}
 use native.Mathlib.Omega.{arith}
 use Prim.Native.Nat.{_*_}
@@ -37,7 +37,7 @@ unfolding withNode
 returns c =
     let a = c .before .before .before .before .before .args in
     simp (c .before .before .fill-node .ensures)
-    (part-back (a .nodes .now) (nodeRecord (a .key) (a .version) (a .top) (a .next)) (16 * a .node) 16 refl (omega arith))
+    (part-back (a .nodes .now) (nodeRecord (a .key) (a .version) (a .top) (a .next)) (nodeWords * a .node) nodeWords refl (omega arith))
 
 pub write-node-spec : {M : Type 1} → statement M
 write-node-spec =

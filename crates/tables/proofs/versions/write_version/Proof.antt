@@ -1,6 +1,6 @@
 -- What the writer of one version leaves in its part, said of the whole table.
 use Rattle.tables.proofs.Lists.{part-back}
-use Rattle.model.specs.Layout.{withVersion}
+use Rattle.model.specs.Layout.{versionWords, withVersion}
 use mathlib.Core.List.{[], _∷_}
 use mathlib.Core.Path.{refl}
 use native.Mathlib.Omega.{arith}
@@ -38,7 +38,7 @@ unfolding withVersion
 returns c =
     let a = c .before .before .before .before .before .args in
     simp (c .before .before .fill-version .ensures)
-    (part-back (a .versions .now) (a .value ∷ a .timestamp ∷ a .prev ∷ []) (3 * a .version) 3 refl (omega arith))
+    (part-back (a .versions .now) (a .value ∷ a .timestamp ∷ a .prev ∷ []) (versionWords * a .version) versionWords refl (omega arith))
 
 pub write-version-spec : {M : Type 1} → statement M
 write-version-spec =
