@@ -4,6 +4,7 @@ use mathlib.Core.Bool.{Bool, _&&_}
 use mathlib.Core.List.{List}
 use lib.Dec.{eqb}
 use lib.ListN.{length}
+use Rattle.model.specs.declared.types.Call.{Call}
 use Rattle.model.specs.declared.types.Opening.{Opening}
 use Rattle.model.specs.declared.types.Starting.{Starting}
 use Rattle.model.specs.declared.types.StartResult.{StartResult}
@@ -19,6 +20,7 @@ use Rattle.model.specs.Calls.{Opened, openOf, startOf, Stepped, storeOf, stepPe
 use Rattle.model.specs.Inspection.{inspectOf}
 use Rattle.model.specs.State.{lawfulStore}
 use Rattle.model.specs.Requests.{Operation}
+use Rattle.store.specs.Calls.{startWith}
 use Rattle.process.specs.ProcessWords.{sizes}
 use Rattle.layout.specs.StateWords.{stateWords, stateFrom, isState, isStateAt, written}
 
@@ -30,18 +32,17 @@ pub record OpenIn : Type 0 where
   pub nodes : List ℕ
   pub versions : List ℕ
 
+-- all that it leaves
+abbrev pub openedIn : Opening → (words nodes versions : List ℕ) → OpenIn
+openedIn o w nodes versions = record { outcome = o; words = w; nodes = nodes; versions = versions }
+
 abbrev pub openEncoded : Opened → OpenIn
-openEncoded o = record {
-  outcome = o .result .outcome;
-  words = stateWords (o .result .state);
-  nodes = o .nodes;
-  versions = o .versions;
-}
+openEncoded o = openedIn (o .result .outcome) (stateWords (o .result .state)) (o .nodes) (o .versions)
 
 unfoldable pub openIn : (words nodes versions : List ℕ) (processes limit : ℕ) → OpenIn
 openIn w nodes versions processes limit =
     if eqb (length w) (sizes .state) then openEncoded (openOf nodes versions processes limit)
-    else record { outcome = Opening.Refused Corrupt; words = w; nodes = nodes; versions = versions }
+    else openedIn (Opening.Refused Corrupt) w nodes versions
 
 -- ---- start
 
@@ -49,11 +50,19 @@ pub record StartIn : Type 0 where
   pub outcome : Starting
   pub words : List ℕ
 
+-- all that it leaves: no start writes a table
+abbrev pub startedIn : Starting → (words : List ℕ) → StartIn
+startedIn o w = record { outcome = o; words = w }
+
 abbrev pub startEncoded : StartResult → StartIn
-startEncoded r = record { outcome = r .outcome; words = stateWords (r .state) }
+startEncoded r = startedIn (r .outcome) (stateWords (r .state))
 
 abbrev pub startUnless : (words : List ℕ) → StartResult → StartIn
-startUnless w r = if isState w then startEncoded r else record { outcome = Starting.Refused Corrupt; words = w }
+startUnless w r = if isState w then startEncoded r else startedIn (Starting.Refused Corrupt) w
+
+-- a start with a call that has no tick yet
+abbrev pub startWithIn : (words nodes versions : List ℕ) (process : ℕ) → Call → StartIn
+startWithIn w nodes versions i c = startUnless w (startWith (stateFrom w) nodes versions i c)
 
 unfoldable pub startIn : (words nodes versions : List ℕ) (process : ℕ) → Operation → StartIn
 startIn w nodes versions i op = startUnless w (startOf (stateFrom w) nodes versions i op)
@@ -67,14 +76,13 @@ pub record StepIn : Type 0 where
   pub versions : List ℕ
   pub tally : List ℕ
 
+-- all that it leaves
+abbrev pub steppedIn : Stepping → (words nodes versions tally : List ℕ) → StepIn
+steppedIn o w nodes versions tally = record { outcome = o; words = w; nodes = nodes; versions = versions; tally = tally }
+
 abbrev pub stepWritten : (words : List ℕ) → ℕ → Stepped → StepIn
-stepWritten w i r = record {
-  outcome = r .outcome;
-  words = written w i (r .store .state);
-  nodes = r .store .nodes;
-  versions = r .store .versions;
-  tally = r .store .tally;
-}
+stepWritten w i r =
+    steppedIn (r .outcome) (written w i (r .store .state)) (r .store .nodes) (r .store .versions) (r .store .tally)
 
 -- what a step reads of the words is a state's, and lawful with these tables
 abbrev pub lawfulIn : (words nodes versions : List ℕ) (process : ℕ) → Bool
@@ -88,7 +96,7 @@ stepPermitIn w nodes versions tally i =
 unfoldable pub stepIn : (words nodes versions tally : List ℕ) (process : ℕ) → StepIn
 stepIn w nodes versions tally i =
     if isStateAt w i then stepWritten w i (stepOf (storeOf (stateFrom w) nodes versions tally) i)
-    else record { outcome = Stepping.Refused Corrupt; words = w; nodes = nodes; versions = versions; tally = tally }
+    else steppedIn (Stepping.Refused Corrupt) w nodes versions tally
 
 -- ---- the calls that change nothing
 

@@ -1,10 +1,7 @@
 // Starts of a put and of a get: the process's words and the count of events are written.
 ghost use mathlib.Core.Path.{_≡_};
-ghost use Prim.Native.Nat.{_+_};
 ghost use Rattle.model.specs.Requests.{put, get};
-ghost use Rattle.model.specs.Calls.{startPermit, startBy};
-ghost use Rattle.layout.specs.StateWords.{stateFrom};
-ghost use Rattle.lent.specs.Calls.{startUnless, startIn};
+ghost use Rattle.lent.specs.Calls.{startedIn, startWithIn, startIn};
 use calls::begin::begin;
 use calls::begin::top_of;
 use calls::slot::slot;
@@ -21,38 +18,37 @@ use process::types::Sizes;
 use process::words::put_process;
 use refusals::permit::start_permit;
 
+// What a put and a get share. `asked` is the call but for its tick, which a start has only where it is let pass.
 fn start_in(
     words: &mut [u32],
     nodes: &[u32],
     versions: &[u32],
     process: u32,
-    kind: Kind,
-    key: u64,
-    value: u32,
-    timestamp: u32,
-    top: u32,
+    asked: Call,
 ) -> Starting
-    ensures { λ r. ⌜ record { outcome = r; words = now (words .exit) } ≡ startUnless (now (words .entry)) (startBy (startPermit (stateFrom (now (words .entry))) (now (nodes .entry)) (now (versions .entry)) process key) (stateFrom (now (words .entry))) process (record { kind = kind; key = key; value = value; timestamp = timestamp; top = top; start = stateFrom (now (words .entry)) .events + 1 })) ⌝ }
+    ensures { λ r. ⌜ startedIn r (now (words .exit))
+        ≡ startWithIn (now (words .entry)) (now (nodes .entry)) (now (versions .entry)) process asked ⌝ }
 {
     if !is_state(words) {
         return Starting::Refused(Refusal::Corrupt);
     }
     let at = Sizes::HEAD + Sizes::PROCESS * slot(process);
     let held = kind_of(words[at]);
-    let permit = start_permit(&words[1..Sizes::HEAD], held, nodes, versions, process, key);
+    let permit = start_permit(
+        &words[1..Sizes::HEAD],
+        held,
+        nodes,
+        versions,
+        process,
+        asked.key,
+    );
     match permit {
         Permit::Denied(refusal) => Starting::Refused(refusal),
         Permit::Granted => {
             let end = at + Sizes::PROCESS;
             let tick = words[4] + 1;
-            let call = Call {
-                kind,
-                key,
-                value,
-                timestamp,
-                top,
-                start: tick,
-            };
+            let mut call = asked;
+            call.start = tick;
             let begun = begin(call);
             let counts = counts_in(words);
             put_process(&mut words[at..end], begun);
@@ -62,6 +58,7 @@ fn start_in(
     }
 }
 
+// A start reads the tables only for their lengths, and takes the top level from the draw at once, so that no draw is kept.
 pub fn start_put_in(
     words: &mut [u32],
     nodes: &[u32],
@@ -72,22 +69,22 @@ pub fn start_put_in(
     timestamp: u32,
     draw: u16,
 ) -> Starting
-    ensures { λ r. ⌜ record { outcome = r; words = now (words .exit) } ≡ startIn (now (words .entry)) (now (nodes .entry)) (now (versions .entry)) process (put key value timestamp draw) ⌝ }
+    ensures { λ r. ⌜ startedIn r (now (words .exit))
+        ≡ startIn (now (words .entry)) (now (nodes .entry)) (now (versions .entry)) process (put key value timestamp draw) ⌝ }
 {
     let top = top_of(draw);
-    start_in(
-        words,
-        nodes,
-        versions,
-        process,
-        Kind::Put,
+    let asked = Call {
+        kind: Kind::Put,
         key,
         value,
         timestamp,
         top,
-    )
+        start: 0,
+    };
+    start_in(words, nodes, versions, process, asked)
 }
 
+// A get keeps the record of a put, with what it does not use at 0.
 pub fn start_get_in(
     words: &mut [u32],
     nodes: &[u32],
@@ -95,7 +92,16 @@ pub fn start_get_in(
     process: u32,
     key: u64,
 ) -> Starting
-    ensures { λ r. ⌜ record { outcome = r; words = now (words .exit) } ≡ startIn (now (words .entry)) (now (nodes .entry)) (now (versions .entry)) process (get key) ⌝ }
+    ensures { λ r. ⌜ startedIn r (now (words .exit))
+        ≡ startIn (now (words .entry)) (now (nodes .entry)) (now (versions .entry)) process (get key) ⌝ }
 {
-    start_in(words, nodes, versions, process, Kind::Get, key, 0, 0, 0)
+    let asked = Call {
+        kind: Kind::Get,
+        key,
+        value: 0,
+        timestamp: 0,
+        top: 0,
+        start: 0,
+    };
+    start_in(words, nodes, versions, process, asked)
 }

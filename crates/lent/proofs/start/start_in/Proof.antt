@@ -9,6 +9,7 @@ use borrow.Author.Tests.{not-true, not-false}
 use borrow.Rule.Slice.PartMut.{same-len-mid}
 use Rattle.model.specs.declared.types.Call.{Call}
 use Rattle.model.specs.Calls.{startPermit}
+use Rattle.store.specs.Calls.{timed}
 use Rattle.refusals.proofs.Laws.{MayStart, may-start}
 use Rattle.process.specs.ProcessWords.{sizes, processWords}
 use Rattle.layout.specs.StateWords.{stateFrom, isState, startOf}
@@ -22,14 +23,7 @@ start c = c .before .before .before .before .before .before .before .before .bef
 
 -- the call at a tick
 abbrev call : tie.Start → ℕ → Call
-call c t = let a = c .args in record {
-  kind = a .kind;
-  key = a .key;
-  value = a .value;
-  timestamp = a .timestamp;
-  top = a .top;
-  start = t;
-}
+call c t = timed (c .args .asked) t
 
 known : (c : tie.Else1) → isState (c .before .before .before .before .before .before .args .words .now) ≡ true
 known c = sym (c .before .is-state .ensures) ∙ not-false _ (c .if1 .left)
@@ -39,7 +33,7 @@ long c = state-long (c .before .before .before .before .before .before .args .wo
 
 -- the permit is the definition's: the kind was read at the process's own place
 permit-is : (c : tie.After-start-permit) → let a = start c .args in
-    c .start-permit .result ≡ startPermit (stateFrom (a .words .now)) (a .nodes .now) (a .versions .now) (a .process) (a .key)
+    c .start-permit .result ≡ startPermit (stateFrom (a .words .now)) (a .nodes .now) (a .versions .now) (a .process) (a .asked .key)
 permit-is c =
     let a = start c .args in
     c .start-permit .ensures _
