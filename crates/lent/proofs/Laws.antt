@@ -1,12 +1,11 @@
 -- Steps and starts in place: what is left of one process, put into the words, is what the store's call leaves, encoded.
-use Prim.Native.Nat.{ℕ, _+_, _-_, _<_}
+use Prim.Native.Nat.{ℕ, _+_, _≤_, _<_}
 use mathlib.Core.Bool.{Bool, true, false, _&&_, and-true, and-false, and-eq-true-iff}
 use mathlib.Core.List.{List}
 use mathlib.Core.Path.{_≡_, refl, sym, ap, _∙_}
 use native.Mathlib.Omega.{arith}
 use lib.ListN.{length, getD, take, drop}
 use lib.Seq.{getD-take, getD-drop}
-use borrow.Rule.Slice.PartMut.{putMid}
 use Rattle.model.specs.declared.types.Call.{Call}
 use Rattle.model.specs.declared.types.Counts.{Counts}
 use Rattle.model.specs.declared.types.Move.{Move}
@@ -33,7 +32,8 @@ use Rattle.layout.proofs.Known.{by-none}
 use Rattle.layout.proofs.Whole.{put-part}
 use Rattle.layout.proofs.Written.{header-at, written-same, written-over}
 use Rattle.apply.specs.Leave.{LeftIn, standing, evented, leaveIn}
-use Rattle.lent.specs.Calls.{StartIn, startedIn, startUnless, StepIn, steppedIn, stepWritten, lawfulIn, stepPermitIn, stepIn}
+use Rattle.apply.proofs.Left.{put-sets}
+use Rattle.lent.specs.Calls.{StartIn, startedIn, startUnless, begunIn, StepIn, steppedIn, stepWritten, lawfulIn, stepPermitIn, stepIn}
 
 -- ---- step
 
@@ -213,23 +213,26 @@ module _ (w : List ℕ) (i : ℕ) (permit : Permit) (call : ℕ → Call) where
     unfolding startBy
     begun-in e = simp (known, e)
 
-    -- the process at its walk, put into its part, and the count of events
-    pub start-granted : (j events : ℕ) (counts : Counts) (p v : List ℕ) → permit ≡ Granted → events ≡ stateFrom w .events
-        → counts ≡ stateFrom w .counts → j ≡ i → i < limits .processes → p ≡ processWords (begun (call (events + 1)))
-        → v ≡ putEvent (putMid (startOf j) (startOf j + sizes .process - startOf j) w p) (events + 1) counts
+    -- the process at its walk in its own words, and the event
+    words-begun : i < limits .processes → ((tick : ℕ) → call tick .start ≡ tick)
+        → begunIn w (startOf i) (call (stateFrom w .events + 1))
+        ≡ stateWords (withEvent (stateFrom w) i (stateFrom w .counts) (begun (call (stateFrom w .events + 1))))
+    words-begun few timed =
+        let tick = stateFrom w .events + 1 in
+        let q = begun (call tick) in
+        let fits : startOf i + sizes .process ≤ length w = omega (arith, few, state-facts w known .long) in
+        ap (λ t. evented w (startOf i) t (stateFrom w .counts) q) (timed tick)
+        ∙ ap (λ u. putEvent u tick (stateFrom w .counts))
+        (sym (put-sets w (processWords q) (startOf i) refl fits) ∙ put-part w (processWords q) (startOf i))
+        ∙ event-words w i q (stateFrom w .counts) known few
+
+    pub start-granted : (j events : ℕ) (v : List ℕ) → permit ≡ Granted → events ≡ stateFrom w .events → j ≡ i
+        → i < limits .processes → ((tick : ℕ) → call tick .start ≡ tick) → v ≡ begunIn w (startOf j) (call (events + 1))
         → startedIn (Starting.Started (events + 1)) v ≡ begins
-    start-granted j events counts p v e now used slot few is put =
-        let q = begun (call (stateFrom w .events + 1)) in
-        ap (startedIn (Starting.Started (events + 1)))
-        (put ∙ ap (λ p. putEvent (putMid (startOf j) (startOf j + sizes .process - startOf j) w p) (events + 1) counts) is)
-        ∙ ap (λ e. startedIn (Starting.Started (e + 1))
-        (putEvent (putMid (startOf j) (startOf j + sizes .process - startOf j) w (processWords (begun (call (e + 1))))) (e + 1) counts))
-        now
-        ∙ ap (startedIn (Starting.Started (stateFrom w .events + 1)))
-        (ap (λ v. putEvent v (stateFrom w .events + 1) counts)
-        (put-part w (processWords q) (startOf j) ∙ ap (λ k. putProcess w k (processWords q)) slot)
-        ∙ ap (putEvent (putProcess w i (processWords q)) (stateFrom w .events + 1)) used
-        ∙ event-words w i q (stateFrom w .counts) known few)
+    start-granted j events v e now slot few timed put =
+        ap (startedIn (Starting.Started (events + 1))) (put ∙ ap (λ j. begunIn w (startOf j) (call (events + 1))) slot)
+        ∙ ap (λ n. startedIn (Starting.Started (n + 1)) (begunIn w (startOf i) (call (n + 1)))) now
+        ∙ ap (startedIn (Starting.Started (stateFrom w .events + 1))) (words-begun few timed)
         ∙ begun-in e
 
 -- ---- the calls that change nothing

@@ -5,6 +5,7 @@ use mathlib.Core.List.{List}
 use lib.Dec.{eqb}
 use lib.ListN.{length}
 use Rattle.model.specs.declared.types.Call.{Call}
+use Rattle.model.specs.declared.types.Kind.{Kind}
 use Rattle.model.specs.declared.types.Opening.{Opening}
 use Rattle.model.specs.declared.types.Starting.{Starting}
 use Rattle.model.specs.declared.types.StartResult.{StartResult}
@@ -16,13 +17,14 @@ use Rattle.model.specs.declared.types.Permit.{Permit}
 use Rattle.model.specs.declared.types.Permit.the-variants.{Denied}
 use Rattle.model.specs.declared.types.Refusal.the-variants.{Corrupt}
 use Rattle.model.specs.Choice.{if_then_else_}
-use Rattle.model.specs.Calls.{Opened, openOf, startOf, Stepped, storeOf, stepPermit, stepOf, lookOf, statusOf}
+use Rattle.model.specs.Calls.{Opened, openOf, begun, startOf, Stepped, storeOf, stepPermit, stepOf, lookOf, statusOf}
 use Rattle.model.specs.Inspection.{inspectOf}
 use Rattle.model.specs.State.{lawfulStore}
 use Rattle.model.specs.Requests.{Operation}
-use Rattle.store.specs.Calls.{startWith}
 use Rattle.process.specs.ProcessWords.{sizes}
 use Rattle.layout.specs.StateWords.{stateWords, stateFrom, isState, isStateAt, written}
+use Rattle.apply.specs.Leave.{evented}
+use Rattle.store.specs.Calls.{startWith}
 
 -- ---- open: whatever stood in the words, as long as there are enough of them
 
@@ -60,9 +62,17 @@ startEncoded r = startedIn (r .outcome) (stateWords (r .state))
 abbrev pub startUnless : (words : List ℕ) → StartResult → StartIn
 startUnless w r = if isState w then startEncoded r else startedIn (Starting.Refused Corrupt) w
 
+-- the call that has these parts, and then a tick
+abbrev pub callWith : Kind → (key value timestamp top tick : ℕ) → Call
+callWith kind k v t top tick = record { kind = kind; key = k; value = v; timestamp = t; top = top; start = tick }
+
+-- the words with a call begun in those of the process at a place, and its event
+abbrev pub begunIn : (words : List ℕ) (at : ℕ) → Call → List ℕ
+begunIn w at c = evented w at (c .start) (stateFrom w .counts) (begun c)
+
 -- a start with a call that has no tick yet
-abbrev pub startWithIn : (words nodes versions : List ℕ) (process : ℕ) → Call → StartIn
-startWithIn w nodes versions i c = startUnless w (startWith (stateFrom w) nodes versions i c)
+abbrev pub startWithIn : (words nodes versions : List ℕ) (process : ℕ) → (call : (tick : ℕ) → Call) → StartIn
+startWithIn w nodes versions i call = startUnless w (startWith (stateFrom w) nodes versions i call)
 
 unfoldable pub startIn : (words nodes versions : List ℕ) (process : ℕ) → Operation → StartIn
 startIn w nodes versions i op = startUnless w (startOf (stateFrom w) nodes versions i op)

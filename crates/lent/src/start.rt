@@ -1,7 +1,10 @@
 // Starts of a put and of a get: the process's words and the count of events are written.
 ghost use mathlib.Core.Path.{_≡_};
+ghost use Prim.Native.Nat.{_+_, _≤_};
+ghost use lib.ListN.{length};
+ghost use Rattle.process.specs.ProcessWords.{sizes};
 ghost use Rattle.model.specs.Requests.{put, get};
-ghost use Rattle.lent.specs.Calls.{startedIn, startWithIn, startIn};
+ghost use Rattle.lent.specs.Calls.{callWith, startedIn, startWithIn, begunIn, startIn};
 use calls::begin::begin;
 use calls::begin::top_of;
 use calls::slot::slot;
@@ -18,41 +21,56 @@ use process::types::Sizes;
 use process::words::put_process;
 use refusals::permit::start_permit;
 
-// What a put and a get share. `asked` is the call but for its tick, which a start has only where it is let pass.
+// The words of the process that stand at `at`, and the event: the counts in use are written back as they were.
+fn begin_in(words: &mut [u32], at: usize, call: Call)
+    requires { ⌜ length (now words) ≡ sizes .state ⌝ }
+    requires { ⌜ at + sizes .process ≤ sizes .state ⌝ }
+    ensures { λ r. ⌜ now (words .exit) ≡ begunIn (now (words .entry)) at call ⌝ }
+{
+    let end = at + Sizes::PROCESS;
+    let tick = call.start;
+    let begun = begin(call);
+    let counts = counts_in(words);
+    put_process(&mut words[at..end], begun);
+    put_event(words, tick, counts);
+}
+
+// What a put and a get share. The call comes in its parts: its tick is known only where the start is let pass, and the
+// record, which is passed by its address, costs a start four instructions more.
 fn start_in(
     words: &mut [u32],
     nodes: &[u32],
     versions: &[u32],
     process: u32,
-    asked: Call,
+    kind: Kind,
+    key: u64,
+    value: u32,
+    timestamp: u32,
+    top: u32,
 ) -> Starting
     ensures { λ r. ⌜ startedIn r (now (words .exit))
-        ≡ startWithIn (now (words .entry)) (now (nodes .entry)) (now (versions .entry)) process asked ⌝ }
+        ≡ startWithIn (now (words .entry)) (now (nodes .entry)) (now (versions .entry)) process
+        (callWith kind key value timestamp top) ⌝ }
 {
     if !is_state(words) {
         return Starting::Refused(Refusal::Corrupt);
     }
     let at = Sizes::HEAD + Sizes::PROCESS * slot(process);
     let held = kind_of(words[at]);
-    let permit = start_permit(
-        &words[1..Sizes::HEAD],
-        held,
-        nodes,
-        versions,
-        process,
-        asked.key,
-    );
+    let permit = start_permit(&words[1..Sizes::HEAD], held, nodes, versions, process, key);
     match permit {
         Permit::Denied(refusal) => Starting::Refused(refusal),
         Permit::Granted => {
-            let end = at + Sizes::PROCESS;
             let tick = words[4] + 1;
-            let mut call = asked;
-            call.start = tick;
-            let begun = begin(call);
-            let counts = counts_in(words);
-            put_process(&mut words[at..end], begun);
-            put_event(words, tick, counts);
+            let call = Call {
+                kind,
+                key,
+                value,
+                timestamp,
+                top,
+                start: tick,
+            };
+            begin_in(words, at, call);
             Starting::Started(tick)
         }
     }
@@ -73,15 +91,17 @@ pub fn start_put_in(
         ≡ startIn (now (words .entry)) (now (nodes .entry)) (now (versions .entry)) process (put key value timestamp draw) ⌝ }
 {
     let top = top_of(draw);
-    let asked = Call {
-        kind: Kind::Put,
+    start_in(
+        words,
+        nodes,
+        versions,
+        process,
+        Kind::Put,
         key,
         value,
         timestamp,
         top,
-        start: 0,
-    };
-    start_in(words, nodes, versions, process, asked)
+    )
 }
 
 // A get keeps the record of a put, with what it does not use at 0.
@@ -95,13 +115,5 @@ pub fn start_get_in(
     ensures { λ r. ⌜ startedIn r (now (words .exit))
         ≡ startIn (now (words .entry)) (now (nodes .entry)) (now (versions .entry)) process (get key) ⌝ }
 {
-    let asked = Call {
-        kind: Kind::Get,
-        key,
-        value: 0,
-        timestamp: 0,
-        top: 0,
-        start: 0,
-    };
-    start_in(words, nodes, versions, process, asked)
+    start_in(words, nodes, versions, process, Kind::Get, key, 0, 0, 0)
 }

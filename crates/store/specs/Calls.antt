@@ -17,8 +17,9 @@ abbrev pub timed : Call → (tick : ℕ) → Call
 timed c tick = record { kind = c .kind; key = c .key; value = c .value; timestamp = c .timestamp; top = c .top; start = tick }
 
 -- a start with a call that has no tick yet: it gets that of the event that the start is
-abbrev pub startWith : State → (nodes versions : List ℕ) → (process : ℕ) → Call → StartResult
-startWith s nodes versions i c = startBy (startPermit s nodes versions i (c .key)) s i (timed c (s .events + 1))
+abbrev pub startWith : State → (nodes versions : List ℕ) → (process : ℕ) → (call : (tick : ℕ) → Call) → StartResult
+startWith s nodes versions i call =
+    let c = call (s .events + 1) in startBy (startPermit s nodes versions i (c .key)) s i c
 
 -- a step: outcome, state, both tables and the tally
 abbrev pub stepped : StepResult → (nodes versions tally : List ℕ) → Stepped

@@ -2,7 +2,7 @@
 ghost use mathlib.Core.Path.{_≡_};
 ghost use Rattle.model.specs.Requests.{put, get};
 ghost use Rattle.model.specs.Calls.{startOf};
-ghost use Rattle.store.specs.Calls.{startWith};
+ghost use Rattle.store.specs.Calls.{timed, startWith};
 use calls::begin::begin;
 use calls::begin::top_of;
 use calls::slot::slot;
@@ -17,7 +17,7 @@ use refusals::permit::start_permit;
 
 // What a put and a get share. `asked` is the call but for its tick, which a start has only where it is let pass.
 fn start(mut s: State, nodes: &[u32], versions: &[u32], process: u32, asked: Call) -> StartResult
-    ensures { λ r. ⌜ r ≡ startWith s (now (nodes .entry)) (now (versions .entry)) process asked ⌝ }
+    ensures { λ r. ⌜ r ≡ startWith s (now (nodes .entry)) (now (versions .entry)) process (timed asked) ⌝ }
 {
     let i = slot(process);
     let p = s.process[i];
