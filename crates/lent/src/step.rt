@@ -1,6 +1,7 @@
 // One step of a process: the head and its words are read and written, and no other.
 ghost use mathlib.Core.Path.{_≡_};
-ghost use Prim.Native.Nat.{_≤_};
+ghost use mathlib.Core.Bool.{true};
+ghost use Prim.Native.Nat.{_≤_, _<_};
 ghost use Rattle.model.specs.Layout.{limits};
 ghost use Rattle.model.specs.declared.types.Permit.the-variants.{Granted};
 ghost use Rattle.lent.specs.Calls.{lawfulIn, steppedIn, stepIn, stepPermitIn};
@@ -84,6 +85,35 @@ fn advance_in(
     leave(words, at, tick, counts, mv, tally)
 }
 
+// A step whose words were tested: the refusals behind that, and where none is due the advance.
+fn step_known(
+    words: &mut [u32],
+    process: u32,
+    nodes: &mut [u32],
+    versions: &mut [u32],
+    tally: &mut [u32],
+) -> Stepping
+    requires { ⌜ process < limits .processes ⌝ }
+    requires { ⌜ lawfulIn (now words) (now nodes) (now versions) process ≡ true ⌝ }
+    ensures { λ r. ⌜ steppedIn r (now (words .exit)) (now (nodes .exit)) (now (versions .exit)) (now (tally .exit))
+        ≡ stepIn (now (words .entry)) (now (nodes .entry)) (now (versions .entry)) (now (tally .entry)) process ⌝ }
+{
+    let at = Sizes::HEAD + Sizes::PROCESS * process as usize;
+    let kind = kind_of(words[at]);
+    let permit = step_permit(
+        &words[1..Sizes::HEAD],
+        kind,
+        nodes,
+        versions,
+        tally,
+        process,
+    );
+    match permit {
+        Permit::Denied(refusal) => Stepping::Refused(refusal),
+        Permit::Granted => advance_in(words, process, nodes, versions, tally),
+    }
+}
+
 // The call that runs most. It tests its own process and the head, and no other process, so that a step costs the same
 // however many there are.
 pub fn step_in(
@@ -102,18 +132,5 @@ pub fn step_in(
     if !lawful_in(words, process, nodes, versions) {
         return Stepping::Refused(Refusal::Corrupt);
     }
-    let at = Sizes::HEAD + Sizes::PROCESS * process as usize;
-    let kind = kind_of(words[at]);
-    let permit = step_permit(
-        &words[1..Sizes::HEAD],
-        kind,
-        nodes,
-        versions,
-        tally,
-        process,
-    );
-    match permit {
-        Permit::Denied(refusal) => Stepping::Refused(refusal),
-        Permit::Granted => advance_in(words, process, nodes, versions, tally),
-    }
+    step_known(words, process, nodes, versions, tally)
 }
