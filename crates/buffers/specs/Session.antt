@@ -7,7 +7,7 @@ use Rattle.model.specs.declared.types.State.{State}
 use Rattle.model.specs.declared.types.StartResult.{StartResult}
 use Rattle.model.specs.Layout.{nodeWords, versionWords, limits}
 use Rattle.model.specs.Calls.{Opened, openOf, startOf, Store, Stepped, stepOf, lookOf}
-use Rattle.model.specs.Requests.{put, get}
+use Rattle.model.specs.Requests.{Operation, put, get}
 use Rattle.model.specs.Inspection.{inspectOf}
 use Rattle.decoder.specs.declared.types.Command.{Command}
 use Rattle.decoder.specs.declared.types.Command.the-variants.{Open, Put, Get, Step, Look, Inspect}
@@ -36,12 +36,19 @@ done r nodes versions tally = record { line = r .line; session = session (r .sta
 
 -- ---- tables in buffers
 
+-- a table at the start of its buffer, as long as the state says
+abbrev pub nodesIn : State → (buffer : List ℕ) → List ℕ
+nodesIn s buffer = take (s .lengths .nodes) buffer
+
+abbrev pub versionsIn : State → (buffer : List ℕ) → List ℕ
+versionsIn s buffer = take (s .lengths .versions) buffer
+
 -- the store whose tables stand at the start of each buffer
 abbrev pub lent : Session → Store
 lent w = record {
   state = w .state;
-  nodes = take (w .state .lengths .nodes) (w .nodes);
-  versions = take (w .state .lengths .versions) (w .versions);
+  nodes = nodesIn (w .state) (w .nodes);
+  versions = versionsIn (w .state) (w .versions);
   tally = w .tally;
 }
 
@@ -86,9 +93,12 @@ openOn w k v p limit = openedOn w k v p limit
 abbrev pub started : (process : ℕ) → StartResult → Performed
 started i r = record { line = startLine i (r .outcome); state = r .state }
 
+abbrev pub startOn : State → (nodes versions : List ℕ) → (process : ℕ) → Operation → Performed
+startOn s nodes versions i op = started i (startOf s (nodesIn s nodes) (versionsIn s versions) i op)
+
 -- a start leaves both buffers and the tally
-abbrev pub startedOn : Session → (process : ℕ) → StartResult → Done
-startedOn w i r = done (started i r) (w .nodes) (w .versions) (w .tally)
+abbrev pub startedOn : Session → Performed → Done
+startedOn w r = done r (w .nodes) (w .versions) (w .tally)
 
 abbrev pub steppedOn : Session → (process : ℕ) → Stepped → Done
 steppedOn w i r = record {
@@ -99,10 +109,16 @@ steppedOn w i r = record {
       (r .store .tally);
 }
 
+abbrev pub lookOn : State → (nodes versions : List ℕ) → (key back : ℕ) → Line
+lookOn s nodes versions k n = lookLine k n (lookOf s (nodesIn s nodes) (versionsIn s versions) k n)
+
+abbrev pub inspectOn : State → (nodes versions : List ℕ) → Line
+inspectOn s nodes versions = inspectLine (inspectOf s (nodesIn s nodes) (versionsIn s versions))
+
 unfoldable pub callOn : Session → Command → Done
 callOn w (Open k v p limit) = openOn w k v p limit
-callOn w (Put i k v t draw) = startedOn w i (startOf (w .state) (lent w .nodes) (lent w .versions) i (put k v t draw))
-callOn w (Get i k) = startedOn w i (startOf (w .state) (lent w .nodes) (lent w .versions) i (get k))
+callOn w (Put i k v t draw) = startedOn w (startOn (w .state) (w .nodes) (w .versions) i (put k v t draw))
+callOn w (Get i k) = startedOn w (startOn (w .state) (w .nodes) (w .versions) i (get k))
 callOn w (Step i) = steppedOn w i (stepOf (lent w) i)
-callOn w (Look k n) = record { line = lookLine k n (lookOf (w .state) (lent w .nodes) (lent w .versions) k n); session = w }
-callOn w Inspect = record { line = inspectLine (inspectOf (w .state) (lent w .nodes) (lent w .versions)); session = w }
+callOn w (Look k n) = record { line = lookOn (w .state) (w .nodes) (w .versions) k n; session = w }
+callOn w Inspect = record { line = inspectOn (w .state) (w .nodes) (w .versions); session = w }

@@ -1,12 +1,8 @@
 // The store's calls that a sheet makes, each on the tables in its buffers.
 ghost use mathlib.Core.Path.{_≡_};
-ghost use lib.ListN.{take};
 ghost use Rattle.model.specs.Requests.{put, get};
-ghost use Rattle.model.specs.Calls.{startOf, lookOf};
-ghost use Rattle.model.specs.Inspection.{inspectOf};
 ghost use Rattle.decoder.specs.declared.types.Command.the-variants.{Open, Step};
-ghost use Rattle.buffers.specs.Session.{session, done, started, callOn};
-ghost use Rattle.printer.specs.Answers.{lookLine, inspectLine};
+ghost use Rattle.buffers.specs.Session.{session, done, started, startOn, lookOn, inspectOn, callOn};
 use crate::lend::asked;
 use crate::lend::held;
 use crate::types::Performed;
@@ -26,6 +22,8 @@ use store::start::start_put;
 use store::step::step;
 use tables::fresh::clear;
 
+// An opening is lent tables of the size that it asks for, not those that the state has: each open replaces the store, and
+// its tally with it.
 pub fn open_on(
     s: State,
     keys: u32,
@@ -36,7 +34,9 @@ pub fn open_on(
     versions: &mut [u32],
     tally: &mut [u32],
 ) -> Performed
-    ensures { λ r. ⌜ done r (now (nodes .exit)) (now (versions .exit)) (now (tally .exit)) ≡ callOn (session s (now (nodes .entry)) (now (versions .entry)) (now (tally .entry))) (Open keys count processes limit) ⌝ }
+    ensures { λ r. ⌜ done r (now (nodes .exit)) (now (versions .exit)) (now (tally .exit))
+        ≡ callOn (session s (now (nodes .entry)) (now (versions .entry)) (now (tally .entry)))
+        (Open keys count processes limit) ⌝ }
 {
     let n = asked(nodes, State::NODE_WORDS, keys);
     let m = asked(versions, State::VERSION_WORDS, count);
@@ -58,6 +58,7 @@ fn started(process: u32, r: StartResult) -> Performed
     Performed { line, state }
 }
 
+// A start reads the buffers and writes none of them, so that it is lent them as they are.
 pub fn put_on(
     s: State,
     process: u32,
@@ -68,7 +69,8 @@ pub fn put_on(
     nodes: &[u32],
     versions: &[u32],
 ) -> Performed
-    ensures { λ r. ⌜ r ≡ started process (startOf s (take (s .lengths .nodes) (now (nodes .entry))) (take (s .lengths .versions) (now (versions .entry))) process (put key value timestamp draw)) ⌝ }
+    ensures { λ r. ⌜ r
+        ≡ startOn s (now (nodes .entry)) (now (versions .entry)) process (put key value timestamp draw) ⌝ }
 {
     let n = held(nodes, s.lengths.nodes);
     let m = held(versions, s.lengths.versions);
@@ -85,8 +87,9 @@ pub fn put_on(
     started(process, r)
 }
 
+// As a put, with no reading and no draw.
 pub fn get_on(s: State, process: u32, key: u64, nodes: &[u32], versions: &[u32]) -> Performed
-    ensures { λ r. ⌜ r ≡ started process (startOf s (take (s .lengths .nodes) (now (nodes .entry))) (take (s .lengths .versions) (now (versions .entry))) process (get key)) ⌝ }
+    ensures { λ r. ⌜ r ≡ startOn s (now (nodes .entry)) (now (versions .entry)) process (get key) ⌝ }
 {
     let n = held(nodes, s.lengths.nodes);
     let m = held(versions, s.lengths.versions);
@@ -94,6 +97,7 @@ pub fn get_on(s: State, process: u32, key: u64, nodes: &[u32], versions: &[u32])
     started(process, r)
 }
 
+// What a step leaves of the tables stands at the start of the buffers again: the words behind them are not lent.
 pub fn step_on(
     s: State,
     process: u32,
@@ -101,7 +105,8 @@ pub fn step_on(
     versions: &mut [u32],
     tally: &mut [u32],
 ) -> Performed
-    ensures { λ r. ⌜ done r (now (nodes .exit)) (now (versions .exit)) (now (tally .exit)) ≡ callOn (session s (now (nodes .entry)) (now (versions .entry)) (now (tally .entry))) (Step process) ⌝ }
+    ensures { λ r. ⌜ done r (now (nodes .exit)) (now (versions .exit)) (now (tally .exit))
+        ≡ callOn (session s (now (nodes .entry)) (now (versions .entry)) (now (tally .entry))) (Step process) ⌝ }
 {
     let n = held(nodes, s.lengths.nodes);
     let m = held(versions, s.lengths.versions);
@@ -112,8 +117,9 @@ pub fn step_on(
     Performed { line, state }
 }
 
+// Its line names the key and the place that were asked for, so it takes them beside the outcome.
 pub fn look_on(s: State, key: u64, back: u32, nodes: &[u32], versions: &[u32]) -> Line
-    ensures { λ r. ⌜ r ≡ lookLine key back (lookOf s (take (s .lengths .nodes) (now (nodes .entry))) (take (s .lengths .versions) (now (versions .entry))) key back) ⌝ }
+    ensures { λ r. ⌜ r ≡ lookOn s (now (nodes .entry)) (now (versions .entry)) key back ⌝ }
 {
     let n = held(nodes, s.lengths.nodes);
     let m = held(versions, s.lengths.versions);
@@ -121,8 +127,9 @@ pub fn look_on(s: State, key: u64, back: u32, nodes: &[u32], versions: &[u32]) -
     of_look(key, back, outcome)
 }
 
+// Gives a line alone, as a look does: the state after it is the one before it.
 pub fn inspect_on(s: State, nodes: &[u32], versions: &[u32]) -> Line
-    ensures { λ r. ⌜ r ≡ inspectLine (inspectOf s (take (s .lengths .nodes) (now (nodes .entry))) (take (s .lengths .versions) (now (versions .entry)))) ⌝ }
+    ensures { λ r. ⌜ r ≡ inspectOn s (now (nodes .entry)) (now (versions .entry)) ⌝ }
 {
     let n = held(nodes, s.lengths.nodes);
     let m = held(versions, s.lengths.versions);

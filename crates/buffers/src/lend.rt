@@ -3,6 +3,7 @@ ghost use Prim.Native.Nat.{min};
 ghost use mathlib.Core.Path.{_≡_};
 ghost use Rattle.buffers.specs.Session.{Lends, tableWords};
 
+// No more is lent than there is, so that no length that a state or an open names reaches behind its buffer.
 fn least(a: usize, b: usize) -> usize
     ensures { λ r. ⌜ r ≡ min a b ⌝ }
 {

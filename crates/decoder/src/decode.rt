@@ -2,7 +2,8 @@
 ghost use mathlib.Core.Path.{_≡_};
 ghost use Prim.Native.Nat.{_+_, _^_, _≤_, _<_};
 ghost use lib.ListN.{length, take, drop};
-ghost use Rattle.decoder.specs.Commands.{bigEndian, openForm, putForm, getForm, stepForm, lookForm, KeyWidth, total, commandWith, formFrom, commandFrom};
+ghost use Rattle.decoder.specs.Commands.{openForm, putForm, getForm, stepForm, lookForm, KeyWidth};
+ghost use Rattle.decoder.specs.Commands.{bigEndian, total, commandWith, formFrom, commandFrom};
 use crate::types::Command;
 use crate::types::Decoded;
 use model::halves::joined;

@@ -18,7 +18,7 @@ trayNodeWords k = if within 1 (limits .nodes) k then nodeWords * suc k else 0
 unfoldable pub trayReadingWords : (readings : ℕ) → ℕ
 trayReadingWords v = if within 1 (limits .versions) v then versionWords * suc v else 0
 
--- ---- calls that write
+-- ---- calls that write: of each, all that it leaves, and the reply
 
 pub record TrayOpen : Type 0 where
   pub number : ℕ
@@ -26,8 +26,11 @@ pub record TrayOpen : Type 0 where
   pub nodes : List ℕ
   pub versions : List ℕ
 
+abbrev pub trayOpened : (number : ℕ) → (words nodes versions : List ℕ) → TrayOpen
+trayOpened n w nodes versions = record { number = n; words = w; nodes = nodes; versions = versions }
+
 unfoldable pub openReply : OpenIn → TrayOpen
-openReply o = record { number = openTold (o .outcome); words = o .words; nodes = o .nodes; versions = o .versions }
+openReply o = trayOpened (openTold (o .outcome)) (o .words) (o .nodes) (o .versions)
 
 unfoldable pub trayOpen : (words nodes versions : List ℕ) (stations limit : ℕ) → TrayOpen
 trayOpen w nodes versions stations limit = openReply (openIn w nodes versions stations limit)
@@ -36,8 +39,11 @@ pub record TrayStart : Type 0 where
   pub told : Told
   pub words : List ℕ
 
+abbrev pub trayStarted : Told → (words : List ℕ) → TrayStart
+trayStarted t w = record { told = t; words = w }
+
 unfoldable pub startReply : StartIn → TrayStart
-startReply s = record { told = startTold (s .outcome); words = s .words }
+startReply s = trayStarted (startTold (s .outcome)) (s .words)
 
 unfoldable pub trayStart : (words nodes versions : List ℕ) (station : ℕ) → Operation → TrayStart
 trayStart w nodes versions i op = startReply (startIn w nodes versions i op)
@@ -49,14 +55,11 @@ pub record TrayStep : Type 0 where
   pub versions : List ℕ
   pub tally : List ℕ
 
+abbrev pub trayStepped : Told → (words nodes versions tally : List ℕ) → TrayStep
+trayStepped t w nodes versions tally = record { told = t; words = w; nodes = nodes; versions = versions; tally = tally }
+
 unfoldable pub stepReply : StepIn → TrayStep
-stepReply s = record {
-  told = stepTold (s .outcome);
-  words = s .words;
-  nodes = s .nodes;
-  versions = s .versions;
-  tally = s .tally;
-}
+stepReply s = trayStepped (stepTold (s .outcome)) (s .words) (s .nodes) (s .versions) (s .tally)
 
 unfoldable pub trayStep : (words nodes versions tally : List ℕ) (station : ℕ) → TrayStep
 trayStep w nodes versions tally i = stepReply (stepIn w nodes versions tally i)

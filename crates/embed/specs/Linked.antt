@@ -19,7 +19,7 @@ use Rattle.model.specs.System.{System}
 use Rattle.model.specs.ByValue.{fittingOf, opensBy}
 use Rattle.process.specs.Numbers.{kindOf}
 use Rattle.layout.specs.StateWords.{stateFrom}
-use Rattle.lent.specs.Calls.{OpenIn, StartIn, StepIn}
+use Rattle.lent.specs.Calls.{OpenIn, openedIn, StartIn, startedIn, StepIn, steppedIn}
 use Rattle.lent.specs.Lent.{Lent, Lending, freshLent, withWords, steppedLent}
 use Rattle.replies.specs.Told.{Told, openTold, startTold, stepTold, lookTold, inspectTold, statusTold}
 use Rattle.embed.specs.Calls.{TrayOpen, trayOpen, TrayStart, trayStart, TrayStep, trayStep, trayLook, trayInspect, trayStanding}
@@ -73,19 +73,13 @@ statusMeant t =
 
 -- beside the words that the call leaves: the way back from `openReply` .. `stepReply`
 abbrev pub openRead : TrayOpen → OpenIn
-openRead o = record { outcome = openMeant (o .number); words = o .words; nodes = o .nodes; versions = o .versions }
+openRead o = openedIn (openMeant (o .number)) (o .words) (o .nodes) (o .versions)
 
 abbrev pub startRead : TrayStart → StartIn
-startRead o = record { outcome = startMeant (o .told); words = o .words }
+startRead o = startedIn (startMeant (o .told)) (o .words)
 
 abbrev pub stepRead : TrayStep → StepIn
-stepRead o = record {
-  outcome = stepMeant (o .told);
-  words = o .words;
-  nodes = o .nodes;
-  versions = o .versions;
-  tally = o .tally;
-}
+stepRead o = steppedIn (stepMeant (o .told)) (o .words) (o .nodes) (o .versions) (o .tally)
 
 -- ---- the system
 

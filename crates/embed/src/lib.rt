@@ -5,7 +5,9 @@ ghost use mathlib.Core.List.{[], _∷_};
 ghost use Rattle.model.specs.Layout.{limits};
 ghost use Rattle.model.specs.Requests.{put, get};
 ghost use Rattle.process.specs.ProcessWords.{sizes};
-ghost use Rattle.embed.specs.Calls.{trayNodeWords, trayReadingWords, trayOpen, trayStart, trayStep, trayLook, trayInspect, trayStanding};
+ghost use Rattle.replies.specs.Told.{reply};
+ghost use Rattle.embed.specs.Calls.{trayNodeWords, trayReadingWords, trayLook, trayInspect, trayStanding};
+ghost use Rattle.embed.specs.Calls.{trayOpened, trayOpen, trayStarted, trayStart, trayStepped, trayStep};
 use lent::open::open_in;
 use lent::query::inspect_in;
 use lent::query::look_in;
@@ -23,6 +25,7 @@ use replies::told::tell_start;
 use replies::told::tell_status;
 use replies::told::tell_step;
 
+// The number of the layout, for a caller that compares its header with what it is linked with.
 #[no_mangle]
 pub extern "C" fn tray_version() -> u32
     ensures { λ r. ⌜ r ≡ sizes .version ⌝ }
@@ -30,6 +33,7 @@ pub extern "C" fn tray_version() -> u32
     Sizes::VERSION
 }
 
+// How many words to lend for a state, for a caller that takes its sizes at run time.
 #[no_mangle]
 pub extern "C" fn tray_state_words() -> usize
     ensures { λ r. ⌜ r ≡ sizes .state ⌝ }
@@ -37,6 +41,7 @@ pub extern "C" fn tray_state_words() -> usize
     Sizes::STATE
 }
 
+// A count for each answer that a call can end with.
 #[no_mangle]
 pub extern "C" fn tray_tally_words() -> usize
     ensures { λ r. ⌜ r ≡ limits .answers ⌝ }
@@ -44,6 +49,7 @@ pub extern "C" fn tray_tally_words() -> usize
     State::ANSWERS as usize
 }
 
+// One node more than trays, for the head. No table has 0 words, so 0 tells that there is none for so many.
 #[no_mangle]
 pub extern "C" fn tray_node_words(trays: u32) -> usize
     ensures { λ r. ⌜ r ≡ trayNodeWords trays ⌝ }
@@ -55,6 +61,7 @@ pub extern "C" fn tray_node_words(trays: u32) -> usize
     }
 }
 
+// One place more than readings: place 0 is none. Again 0 where there is no such table.
 #[no_mangle]
 pub extern "C" fn tray_reading_words(readings: u32) -> usize
     ensures { λ r. ⌜ r ≡ trayReadingWords readings ⌝ }
@@ -66,6 +73,7 @@ pub extern "C" fn tray_reading_words(readings: u32) -> usize
     }
 }
 
+// Refused 1 to 4 it leaves a closed state, so that no call goes on with what stood there.
 #[no_mangle]
 pub extern "C" fn tray_open(
     state: &mut [u32],
@@ -74,12 +82,14 @@ pub extern "C" fn tray_open(
     stations: u32,
     limit: u32,
 ) -> u32
-    ensures { λ r. ⌜ record { number = r; words = now (state .exit); nodes = now (nodes .exit); versions = now (readings .exit) } ≡ trayOpen (now (state .entry)) (now (nodes .entry)) (now (readings .entry)) stations limit ⌝ }
+    ensures { λ r. ⌜ trayOpened r (now (state .exit)) (now (nodes .exit)) (now (readings .exit))
+        ≡ trayOpen (now (state .entry)) (now (nodes .entry)) (now (readings .entry)) stations limit ⌝ }
 {
     let outcome = open_in(state, nodes, readings, stations, limit);
     tell_open(outcome)
 }
 
+// No step is taken yet. The tables are lent for their lengths alone, which are to be those in the state.
 #[no_mangle]
 pub extern "C" fn tray_start_put(
     state: &mut [u32],
@@ -92,12 +102,14 @@ pub extern "C" fn tray_start_put(
     draw: u16,
     tick: &mut u32,
 ) -> u32
-    ensures { λ r. ⌜ record { told = record { number = r; answer = now (tick .exit) ∷ [] }; words = now (state .exit) } ≡ trayStart (now (state .entry)) (now (nodes .entry)) (now (readings .entry)) station (put tray value stamp draw) ⌝ }
+    ensures { λ r. ⌜ trayStarted (reply r (now (tick .exit) ∷ [])) (now (state .exit))
+        ≡ trayStart (now (state .entry)) (now (nodes .entry)) (now (readings .entry)) station (put tray value stamp draw) ⌝ }
 {
     let outcome = start_put_in(state, nodes, readings, station, tray, value, stamp, draw);
     tell_start(outcome, tick)
 }
 
+// As a put is started, with no reading and no draw.
 #[no_mangle]
 pub extern "C" fn tray_start_get(
     state: &mut [u32],
@@ -107,12 +119,14 @@ pub extern "C" fn tray_start_get(
     tray: u64,
     tick: &mut u32,
 ) -> u32
-    ensures { λ r. ⌜ record { told = record { number = r; answer = now (tick .exit) ∷ [] }; words = now (state .exit) } ≡ trayStart (now (state .entry)) (now (nodes .entry)) (now (readings .entry)) station (get tray) ⌝ }
+    ensures { λ r. ⌜ trayStarted (reply r (now (tick .exit) ∷ [])) (now (state .exit))
+        ≡ trayStart (now (state .entry)) (now (nodes .entry)) (now (readings .entry)) station (get tray) ⌝ }
 {
     let outcome = start_get_in(state, nodes, readings, station, tray);
     tell_start(outcome, tick)
 }
 
+// Its time is bounded whatever the store holds, and it tests only the words that it uses.
 #[no_mangle]
 pub extern "C" fn tray_step(
     state: &mut [u32],
@@ -122,12 +136,15 @@ pub extern "C" fn tray_step(
     station: u32,
     answer: &mut [u32; 8],
 ) -> u32
-    ensures { λ r. ⌜ record { told = record { number = r; answer = now (answer .exit) }; words = now (state .exit); nodes = now (nodes .exit); versions = now (readings .exit); tally = now (tally .exit) } ≡ trayStep (now (state .entry)) (now (nodes .entry)) (now (readings .entry)) (now (tally .entry)) station ⌝ }
+    ensures { λ r. ⌜ trayStepped (reply r (now (answer .exit)))
+        (now (state .exit)) (now (nodes .exit)) (now (readings .exit)) (now (tally .exit))
+        ≡ trayStep (now (state .entry)) (now (nodes .entry)) (now (readings .entry)) (now (tally .entry)) station ⌝ }
 {
     let outcome = step_in(state, station, nodes, readings, tally);
     tell_step(outcome, answer)
 }
 
+// Needs no station and is no event: a display may look while calls run.
 #[no_mangle]
 pub extern "C" fn tray_look(
     state: &[u32],
@@ -137,12 +154,14 @@ pub extern "C" fn tray_look(
     back: u32,
     answer: &mut [u32; 2],
 ) -> u32
-    ensures { λ r. ⌜ record { number = r; answer = now (answer .exit) } ≡ trayLook (now (state .entry)) (now (nodes .entry)) (now (readings .entry)) tray back ⌝ }
+    ensures { λ r. ⌜ reply r (now (answer .exit))
+        ≡ trayLook (now (state .entry)) (now (nodes .entry)) (now (readings .entry)) tray back ⌝ }
 {
     let outcome = look_in(state, nodes, readings, tray, back);
     tell_look(outcome, answer)
 }
 
+// A fault that is found is an answer; only where the store cannot be inspected is the number not 0.
 #[no_mangle]
 pub extern "C" fn tray_inspect(
     state: &[u32],
@@ -150,15 +169,17 @@ pub extern "C" fn tray_inspect(
     readings: &[u32],
     answer: &mut [u32; 3],
 ) -> u32
-    ensures { λ r. ⌜ record { number = r; answer = now (answer .exit) } ≡ trayInspect (now (state .entry)) (now (nodes .entry)) (now (readings .entry)) ⌝ }
+    ensures { λ r. ⌜ reply r (now (answer .exit))
+        ≡ trayInspect (now (state .entry)) (now (nodes .entry)) (now (readings .entry)) ⌝ }
 {
     let outcome = inspect_in(state, nodes, readings);
     tell_inspect(outcome, answer)
 }
 
+// Is lent no tables: what a station does stands in the state alone.
 #[no_mangle]
 pub extern "C" fn tray_standing(state: &[u32], station: u32, answer: &mut [u32; 3]) -> u32
-    ensures { λ r. ⌜ record { number = r; answer = now (answer .exit) } ≡ trayStanding (now (state .entry)) station ⌝ }
+    ensures { λ r. ⌜ reply r (now (answer .exit)) ≡ trayStanding (now (state .entry)) station ⌝ }
 {
     let outcome = status_in(state, station);
     tell_status(outcome, answer)

@@ -15,6 +15,7 @@ use model::types::Refusal;
 use model::types::State;
 use printer::types::Line;
 
+// The one command that is performed on a closed store: it makes the store that the others need.
 fn opens(command: Command) -> bool
     ensures { λ r. ⌜ r ≡ opens command ⌝ }
 {
@@ -46,6 +47,7 @@ fn allowed(opened: bool, command: Command) -> bool
     if opened { true } else { opens(command) }
 }
 
+// The call that the command asks for. A look and an inspection leave the state, so it is handed back as it came.
 fn call(
     s: State,
     command: Command,
@@ -53,7 +55,8 @@ fn call(
     versions: &mut [u32],
     tally: &mut [u32],
 ) -> Performed
-    ensures { λ r. ⌜ done r (now (nodes .exit)) (now (versions .exit)) (now (tally .exit)) ≡ callOn (session s (now (nodes .entry)) (now (versions .entry)) (now (tally .entry))) command ⌝ }
+    ensures { λ r. ⌜ done r (now (nodes .exit)) (now (versions .exit)) (now (tally .exit))
+        ≡ callOn (session s (now (nodes .entry)) (now (versions .entry)) (now (tally .entry))) command ⌝ }
 {
     match command {
         Command::Open {
@@ -82,6 +85,7 @@ fn call(
     }
 }
 
+// Every command has its line: one before an accepted open prints refusal 14, and leaves all as it was.
 pub fn perform(
     s: State,
     command: Command,
@@ -89,7 +93,8 @@ pub fn perform(
     versions: &mut [u32],
     tally: &mut [u32],
 ) -> Performed
-    ensures { λ r. ⌜ done r (now (nodes .exit)) (now (versions .exit)) (now (tally .exit)) ≡ performOf (session s (now (nodes .entry)) (now (versions .entry)) (now (tally .entry))) command ⌝ }
+    ensures { λ r. ⌜ done r (now (nodes .exit)) (now (versions .exit)) (now (tally .exit))
+        ≡ performOf (session s (now (nodes .entry)) (now (versions .entry)) (now (tally .entry))) command ⌝ }
 {
     if allowed(s.opened, command) {
         call(s, command, nodes, versions, tally)

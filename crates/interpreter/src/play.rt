@@ -48,8 +48,12 @@ fn play_one(
     tally: &mut [u32],
     out: &mut [u8],
 ) -> Played
-    ensures { λ r. ⌜ playing r (now (nodes .exit)) (now (versions .exit)) (now (tally .exit)) (now (out .exit)) ≡ playOne (now (bytes .entry)) (playing p (now (nodes .entry)) (now (versions .entry)) (now (tally .entry)) (now (out .entry))) ⌝ }
-    ensures { λ r. ⌜ (r .more ≡ false → playing r (now (nodes .exit)) (now (versions .exit)) (now (tally .exit)) (now (out .exit)) ≡ playing p (now (nodes .entry)) (now (versions .entry)) (now (tally .entry)) (now (out .entry))) ⌝ }
+    ensures { λ r. ⌜ playing r (now (nodes .exit)) (now (versions .exit)) (now (tally .exit)) (now (out .exit))
+        ≡ playOne (now (bytes .entry))
+        (playing p (now (nodes .entry)) (now (versions .entry)) (now (tally .entry)) (now (out .entry))) ⌝ }
+    ensures { λ r. ⌜ (r .more ≡ false
+        → playing r (now (nodes .exit)) (now (versions .exit)) (now (tally .exit)) (now (out .exit))
+        ≡ playing p (now (nodes .entry)) (now (versions .entry)) (now (tally .entry)) (now (out .entry))) ⌝ }
     ensures { λ r. ⌜ (Within p (now (bytes .entry)) (now (out .entry)) → Within r (now (bytes .entry)) (now (out .entry))) ⌝ }
 {
     if !has_room(out, p.next) {
@@ -86,7 +90,9 @@ pub fn play(
     tally: &mut [u32],
     out: &mut [u8],
 ) -> Played
-    ensures { λ r. ⌜ playing r (now (nodes .exit)) (now (versions .exit)) (now (tally .exit)) (now (out .exit)) ≡ playOf (now (bytes .entry)) (playing p (now (nodes .entry)) (now (versions .entry)) (now (tally .entry)) (now (out .entry))) ⌝ }
+    ensures { λ r. ⌜ playing r (now (nodes .exit)) (now (versions .exit)) (now (tally .exit)) (now (out .exit))
+        ≡ playOf (now (bytes .entry))
+        (playing p (now (nodes .entry)) (now (versions .entry)) (now (tally .entry)) (now (out .entry))) ⌝ }
     ensures { λ r. ⌜ (Within p (now (bytes .entry)) (now (out .entry)) → Within r (now (bytes .entry)) (now (out .entry))) ⌝ }
 {
     let mut at = p;

@@ -1,12 +1,11 @@
 -- Steps and starts in place: what is left of one process, put into the words, is what the store's call leaves, encoded.
-use Prim.Native.Nat.{ℕ, _+_, _-_, _<_}
-use mathlib.Core.Bool.{Bool, true, false, _&&_, and-eq-true-iff}
+use Prim.Native.Nat.{ℕ, _+_, _≤_, _<_}
+use mathlib.Core.Bool.{Bool, true, false, _&&_, and-true, and-false, and-eq-true-iff}
 use mathlib.Core.List.{List}
 use mathlib.Core.Path.{_≡_, refl, sym, ap, _∙_}
 use native.Mathlib.Omega.{arith}
 use lib.ListN.{length, getD, take, drop}
 use lib.Seq.{getD-take, getD-drop}
-use borrow.Rule.Slice.PartMut.{putMid}
 use Rattle.model.specs.declared.types.Call.{Call}
 use Rattle.model.specs.declared.types.Counts.{Counts}
 use Rattle.model.specs.declared.types.Move.{Move}
@@ -32,7 +31,8 @@ use Rattle.layout.proofs.Known.{by-none}
 use Rattle.layout.proofs.Whole.{put-part}
 use Rattle.layout.proofs.Written.{header-at, written-same, written-over}
 use Rattle.apply.specs.Leave.{LeftIn, standing, evented, leaveIn}
-use Rattle.lent.specs.Calls.{StartIn, startUnless, StepIn, stepWritten, lawfulIn, stepPermitIn, stepIn}
+use Rattle.apply.proofs.Left.{put-sets}
+use Rattle.lent.specs.Calls.{StartIn, startedIn, startUnless, begunIn, StepIn, steppedIn, stepWritten, lawfulIn, stepPermitIn, stepIn}
 
 -- ---- step
 
@@ -45,21 +45,7 @@ kind-at w i j e h =
     ∙ ap kindOf (getD-take (sizes .process) (drop (startOf i) w) 0 0 (omega arith) ∙ getD-drop (startOf i) w 0 0 ∙ ap (λ k. getD w k 0) zero)
 
 abbrev unchanged : Refusal → (words nodes versions tally : List ℕ) → StepIn
-unchanged r w nodes versions tally = record {
-  outcome = Stepping.Refused r;
-  words = w;
-  nodes = nodes;
-  versions = versions;
-  tally = tally;
-}
-
-and-false : (b : Bool) → b && false ≡ false
-and-false true = refl
-and-false false = refl
-
-and-true : (b : Bool) → b && true ≡ b
-and-true true = refl
-and-true false = refl
+unchanged r w nodes versions tally = steppedIn (Stepping.Refused r) w nodes versions tally
 
 denied-is : {q r : Refusal} → Denied q ≡ Denied r → q ≡ r
 denied-is e = ap refusalOf e
@@ -170,7 +156,7 @@ module _ (w nodes versions tally : List ℕ) (i : ℕ) where
             ∙ ap (λ k. advanceOf (i + 1) (stateFrom w .events + 1) (processAt (stateFrom w) i) (memory nodes versions k) tally) used
 
         abbrev left : LeftIn → StepIn
-        left l = record { outcome = l .outcome; words = l .words; nodes = m .nodes; versions = m .versions; tally = l .tally }
+        left l = steppedIn (l .outcome) (l .words) (m .nodes) (m .versions) (l .tally)
 
         abbrev leaving : LeftIn
         leaving = leaveIn (events + 1) (m .counts) v w (startOf i) tally
@@ -212,42 +198,40 @@ module _ (w : List ℕ) (i : ℕ) (permit : Permit) (call : ℕ → Call) where
   abbrev begins : StartIn
   begins = startUnless w (startBy permit (stateFrom w) i (call (stateFrom w .events + 1)))
 
-  pub start-unknown : isState w ≡ false → record { outcome = Starting.Refused Corrupt; words = w } ≡ begins
+  pub start-unknown : isState w ≡ false → startedIn (Starting.Refused Corrupt) w ≡ begins
   start-unknown e = simp e
 
   module _ (known : isState w ≡ true) where
-    pub start-denied : (r : Refusal) → permit ≡ Denied r → record { outcome = Starting.Refused r; words = w } ≡ begins
+    pub start-denied : (r : Refusal) → permit ≡ Denied r → startedIn (Starting.Refused r) w ≡ begins
     unfolding startBy
     start-denied r e = simp (known, e, state-back w known)
 
     begun-in : permit ≡ Granted
-        → _≡_ {A = StartIn} (record {
-          outcome = Starting.Started (stateFrom w .events + 1);
-          words = stateWords (withEvent (stateFrom w) i (stateFrom w .counts) (begun (call (stateFrom w .events + 1))));
-        })
-        begins
+        → startedIn (Starting.Started (stateFrom w .events + 1))
+        (stateWords (withEvent (stateFrom w) i (stateFrom w .counts) (begun (call (stateFrom w .events + 1))))) ≡ begins
     unfolding startBy
     begun-in e = simp (known, e)
 
-    -- the process at its walk, put into its part, and the count of events
-    pub start-granted : (j events : ℕ) (counts : Counts) (p v : List ℕ) → permit ≡ Granted → events ≡ stateFrom w .events
-        → counts ≡ stateFrom w .counts → j ≡ i → i < limits .processes → p ≡ processWords (begun (call (events + 1)))
-        → v ≡ putEvent (putMid (startOf j) (startOf j + sizes .process - startOf j) w p) (events + 1) counts
-        → record { outcome = Starting.Started (events + 1); words = v } ≡ begins
-    start-granted j events counts p v e now used slot few is put =
-        let q = begun (call (stateFrom w .events + 1)) in
-        ap (λ v. record { outcome = Starting.Started (events + 1); words = v })
-        (put ∙ ap (λ p. putEvent (putMid (startOf j) (startOf j + sizes .process - startOf j) w p) (events + 1) counts) is)
-        ∙ ap (λ e. record {
-          outcome = Starting.Started (e + 1);
-          words = putEvent (putMid (startOf j) (startOf j + sizes .process - startOf j) w (processWords (begun (call (e + 1))))) (e + 1) counts;
-        })
-        now
-        ∙ ap (λ v. record { outcome = Starting.Started (stateFrom w .events + 1); words = v })
-        (ap (λ v. putEvent v (stateFrom w .events + 1) counts)
-        (put-part w (processWords q) (startOf j) ∙ ap (λ k. putProcess w k (processWords q)) slot)
-        ∙ ap (putEvent (putProcess w i (processWords q)) (stateFrom w .events + 1)) used
-        ∙ event-words w i q (stateFrom w .counts) known few)
+    -- the process at its walk in its own words, and the event
+    words-begun : i < limits .processes → ((tick : ℕ) → call tick .start ≡ tick)
+        → begunIn w (startOf i) (call (stateFrom w .events + 1))
+        ≡ stateWords (withEvent (stateFrom w) i (stateFrom w .counts) (begun (call (stateFrom w .events + 1))))
+    words-begun few timed =
+        let tick = stateFrom w .events + 1 in
+        let q = begun (call tick) in
+        let fits : startOf i + sizes .process ≤ length w = omega (arith, few, state-facts w known .long) in
+        ap (λ t. evented w (startOf i) t (stateFrom w .counts) q) (timed tick)
+        ∙ ap (λ u. putEvent u tick (stateFrom w .counts))
+        (sym (put-sets w (processWords q) (startOf i) refl fits) ∙ put-part w (processWords q) (startOf i))
+        ∙ event-words w i q (stateFrom w .counts) known few
+
+    pub start-granted : (j events : ℕ) (v : List ℕ) → permit ≡ Granted → events ≡ stateFrom w .events → j ≡ i
+        → i < limits .processes → ((tick : ℕ) → call tick .start ≡ tick) → v ≡ begunIn w (startOf j) (call (events + 1))
+        → startedIn (Starting.Started (events + 1)) v ≡ begins
+    start-granted j events v e now slot few timed put =
+        ap (startedIn (Starting.Started (events + 1))) (put ∙ ap (λ j. begunIn w (startOf j) (call (events + 1))) slot)
+        ∙ ap (λ n. startedIn (Starting.Started (n + 1)) (begunIn w (startOf i) (call (n + 1)))) now
+        ∙ ap (startedIn (Starting.Started (stateFrom w .events + 1))) (words-begun few timed)
         ∙ begun-in e
 
 -- ---- the calls that change nothing

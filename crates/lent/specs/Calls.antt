@@ -4,6 +4,8 @@ use mathlib.Core.Bool.{Bool, _&&_}
 use mathlib.Core.List.{List}
 use lib.Dec.{eqb}
 use lib.ListN.{length}
+use Rattle.model.specs.declared.types.Call.{Call}
+use Rattle.model.specs.declared.types.Kind.{Kind}
 use Rattle.model.specs.declared.types.Opening.{Opening}
 use Rattle.model.specs.declared.types.Starting.{Starting}
 use Rattle.model.specs.declared.types.StartResult.{StartResult}
@@ -15,12 +17,14 @@ use Rattle.model.specs.declared.types.Permit.{Permit}
 use Rattle.model.specs.declared.types.Permit.the-variants.{Denied}
 use Rattle.model.specs.declared.types.Refusal.the-variants.{Corrupt}
 use Rattle.model.specs.Choice.{if_then_else_}
-use Rattle.model.specs.Calls.{Opened, openOf, startOf, Stepped, storeOf, stepPermit, stepOf, lookOf, statusOf}
+use Rattle.model.specs.Calls.{Opened, openOf, begun, startOf, Stepped, storeOf, stepPermit, stepOf, lookOf, statusOf}
 use Rattle.model.specs.Inspection.{inspectOf}
 use Rattle.model.specs.State.{lawfulStore}
 use Rattle.model.specs.Requests.{Operation}
 use Rattle.process.specs.ProcessWords.{sizes}
 use Rattle.layout.specs.StateWords.{stateWords, stateFrom, isState, isStateAt, written}
+use Rattle.apply.specs.Leave.{evented}
+use Rattle.store.specs.Calls.{startWith}
 
 -- ---- open: whatever stood in the words, as long as there are enough of them
 
@@ -30,18 +34,17 @@ pub record OpenIn : Type 0 where
   pub nodes : List ℕ
   pub versions : List ℕ
 
+-- all that it leaves
+abbrev pub openedIn : Opening → (words nodes versions : List ℕ) → OpenIn
+openedIn o w nodes versions = record { outcome = o; words = w; nodes = nodes; versions = versions }
+
 abbrev pub openEncoded : Opened → OpenIn
-openEncoded o = record {
-  outcome = o .result .outcome;
-  words = stateWords (o .result .state);
-  nodes = o .nodes;
-  versions = o .versions;
-}
+openEncoded o = openedIn (o .result .outcome) (stateWords (o .result .state)) (o .nodes) (o .versions)
 
 unfoldable pub openIn : (words nodes versions : List ℕ) (processes limit : ℕ) → OpenIn
 openIn w nodes versions processes limit =
     if eqb (length w) (sizes .state) then openEncoded (openOf nodes versions processes limit)
-    else record { outcome = Opening.Refused Corrupt; words = w; nodes = nodes; versions = versions }
+    else openedIn (Opening.Refused Corrupt) w nodes versions
 
 -- ---- start
 
@@ -49,11 +52,27 @@ pub record StartIn : Type 0 where
   pub outcome : Starting
   pub words : List ℕ
 
+-- all that it leaves: no start writes a table
+abbrev pub startedIn : Starting → (words : List ℕ) → StartIn
+startedIn o w = record { outcome = o; words = w }
+
 abbrev pub startEncoded : StartResult → StartIn
-startEncoded r = record { outcome = r .outcome; words = stateWords (r .state) }
+startEncoded r = startedIn (r .outcome) (stateWords (r .state))
 
 abbrev pub startUnless : (words : List ℕ) → StartResult → StartIn
-startUnless w r = if isState w then startEncoded r else record { outcome = Starting.Refused Corrupt; words = w }
+startUnless w r = if isState w then startEncoded r else startedIn (Starting.Refused Corrupt) w
+
+-- the call that has these parts, and then a tick
+abbrev pub callWith : Kind → (key value timestamp top tick : ℕ) → Call
+callWith kind k v t top tick = record { kind = kind; key = k; value = v; timestamp = t; top = top; start = tick }
+
+-- the words with a call begun in those of the process at a place, and its event
+abbrev pub begunIn : (words : List ℕ) (at : ℕ) → Call → List ℕ
+begunIn w at c = evented w at (c .start) (stateFrom w .counts) (begun c)
+
+-- a start with a call that has no tick yet
+abbrev pub startWithIn : (words nodes versions : List ℕ) (process : ℕ) → (call : (tick : ℕ) → Call) → StartIn
+startWithIn w nodes versions i call = startUnless w (startWith (stateFrom w) nodes versions i call)
 
 unfoldable pub startIn : (words nodes versions : List ℕ) (process : ℕ) → Operation → StartIn
 startIn w nodes versions i op = startUnless w (startOf (stateFrom w) nodes versions i op)
@@ -67,14 +86,13 @@ pub record StepIn : Type 0 where
   pub versions : List ℕ
   pub tally : List ℕ
 
+-- all that it leaves
+abbrev pub steppedIn : Stepping → (words nodes versions tally : List ℕ) → StepIn
+steppedIn o w nodes versions tally = record { outcome = o; words = w; nodes = nodes; versions = versions; tally = tally }
+
 abbrev pub stepWritten : (words : List ℕ) → ℕ → Stepped → StepIn
-stepWritten w i r = record {
-  outcome = r .outcome;
-  words = written w i (r .store .state);
-  nodes = r .store .nodes;
-  versions = r .store .versions;
-  tally = r .store .tally;
-}
+stepWritten w i r =
+    steppedIn (r .outcome) (written w i (r .store .state)) (r .store .nodes) (r .store .versions) (r .store .tally)
 
 -- what a step reads of the words is a state's, and lawful with these tables
 abbrev pub lawfulIn : (words nodes versions : List ℕ) (process : ℕ) → Bool
@@ -88,7 +106,7 @@ stepPermitIn w nodes versions tally i =
 unfoldable pub stepIn : (words nodes versions tally : List ℕ) (process : ℕ) → StepIn
 stepIn w nodes versions tally i =
     if isStateAt w i then stepWritten w i (stepOf (storeOf (stateFrom w) nodes versions tally) i)
-    else record { outcome = Stepping.Refused Corrupt; words = w; nodes = nodes; versions = versions; tally = tally }
+    else steppedIn (Stepping.Refused Corrupt) w nodes versions tally
 
 -- ---- the calls that change nothing
 

@@ -11,6 +11,8 @@ use queries::inspect::inspect;
 use queries::look::look;
 use queries::status::status;
 
+// The version of a key that lies `back` places behind its newest. All of the state is tested, not one process as at a step:
+// it is decoded whole.
 pub fn look_in(words: &[u32], nodes: &[u32], versions: &[u32], key: u64, back: u32) -> Looking
     ensures { λ r. ⌜ r ≡ lookIn (now (words .entry)) (now (nodes .entry)) (now (versions .entry)) key back ⌝ }
 {
@@ -21,6 +23,7 @@ pub fn look_in(words: &[u32], nodes: &[u32], versions: &[u32], key: u64, back: u
     look(s, nodes, versions, key, back)
 }
 
+// Sound, or the level and the node reached at the first fault.
 pub fn inspect_in(words: &[u32], nodes: &[u32], versions: &[u32]) -> Inspecting
     ensures { λ r. ⌜ r ≡ inspectIn (now (words .entry)) (now (nodes .entry)) (now (versions .entry)) ⌝ }
 {
@@ -31,6 +34,7 @@ pub fn inspect_in(words: &[u32], nodes: &[u32], versions: &[u32]) -> Inspecting
     inspect(s, nodes, versions)
 }
 
+// What a process does. It is lent no tables, so that their lengths are not compared with those in the state.
 pub fn status_in(words: &[u32], process: u32) -> Status
     ensures { λ r. ⌜ r ≡ statusIn (now (words .entry)) process ⌝ }
 {

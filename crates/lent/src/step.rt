@@ -1,9 +1,10 @@
 // One step of a process: the head and its words are read and written, and no other.
 ghost use mathlib.Core.Path.{_≡_};
-ghost use Prim.Native.Nat.{_≤_};
+ghost use mathlib.Core.Bool.{true};
+ghost use Prim.Native.Nat.{_≤_, _<_};
 ghost use Rattle.model.specs.Layout.{limits};
 ghost use Rattle.model.specs.declared.types.Permit.the-variants.{Granted};
-ghost use Rattle.lent.specs.Calls.{lawfulIn, stepIn, stepPermitIn};
+ghost use Rattle.lent.specs.Calls.{lawfulIn, steppedIn, stepIn, stepPermitIn};
 use apply::leave::leave;
 use layout::state::counts_in;
 use layout::state::is_head;
@@ -28,7 +29,8 @@ fn step_past(
     tally: &[u32],
 ) -> Stepping
     requires { ⌜ limits .processes ≤ process ⌝ }
-    ensures { λ r. ⌜ record { outcome = r; words = now (words .entry); nodes = now (nodes .entry); versions = now (versions .entry); tally = now (tally .entry) } ≡ stepIn (now (words .entry)) (now (nodes .entry)) (now (versions .entry)) (now (tally .entry)) process ⌝ }
+    ensures { λ r. ⌜ steppedIn r (now (words .entry)) (now (nodes .entry)) (now (versions .entry)) (now (tally .entry))
+        ≡ stepIn (now (words .entry)) (now (nodes .entry)) (now (versions .entry)) (now (tally .entry)) process ⌝ }
 {
     if !is_state_at(words, process) {
         return Stepping::Refused(Refusal::Corrupt);
@@ -70,7 +72,8 @@ fn advance_in(
     tally: &mut [u32],
 ) -> Stepping
     requires { ⌜ stepPermitIn (now words) (now nodes) (now versions) (now tally) process ≡ Granted ⌝ }
-    ensures { λ r. ⌜ record { outcome = r; words = now (words .exit); nodes = now (nodes .exit); versions = now (versions .exit); tally = now (tally .exit) } ≡ stepIn (now (words .entry)) (now (nodes .entry)) (now (versions .entry)) (now (tally .entry)) process ⌝ }
+    ensures { λ r. ⌜ steppedIn r (now (words .exit)) (now (nodes .exit)) (now (versions .exit)) (now (tally .exit))
+        ≡ stepIn (now (words .entry)) (now (nodes .entry)) (now (versions .entry)) (now (tally .entry)) process ⌝ }
 {
     let at = Sizes::HEAD + Sizes::PROCESS * process as usize;
     let end = at + Sizes::PROCESS;
@@ -82,21 +85,19 @@ fn advance_in(
     leave(words, at, tick, counts, mv, tally)
 }
 
-pub fn step_in(
+// A step whose words were tested: the refusals behind that, and where none is due the advance.
+fn step_known(
     words: &mut [u32],
     process: u32,
     nodes: &mut [u32],
     versions: &mut [u32],
     tally: &mut [u32],
 ) -> Stepping
-    ensures { λ r. ⌜ record { outcome = r; words = now (words .exit); nodes = now (nodes .exit); versions = now (versions .exit); tally = now (tally .exit) } ≡ stepIn (now (words .entry)) (now (nodes .entry)) (now (versions .entry)) (now (tally .entry)) process ⌝ }
+    requires { ⌜ process < limits .processes ⌝ }
+    requires { ⌜ lawfulIn (now words) (now nodes) (now versions) process ≡ true ⌝ }
+    ensures { λ r. ⌜ steppedIn r (now (words .exit)) (now (nodes .exit)) (now (versions .exit)) (now (tally .exit))
+        ≡ stepIn (now (words .entry)) (now (nodes .entry)) (now (versions .entry)) (now (tally .entry)) process ⌝ }
 {
-    if State::PROCESSES <= process {
-        return step_past(words, process, nodes, versions, tally);
-    }
-    if !lawful_in(words, process, nodes, versions) {
-        return Stepping::Refused(Refusal::Corrupt);
-    }
     let at = Sizes::HEAD + Sizes::PROCESS * process as usize;
     let kind = kind_of(words[at]);
     let permit = step_permit(
@@ -111,4 +112,25 @@ pub fn step_in(
         Permit::Denied(refusal) => Stepping::Refused(refusal),
         Permit::Granted => advance_in(words, process, nodes, versions, tally),
     }
+}
+
+// The call that runs most. It tests its own process and the head, and no other process, so that a step costs the same
+// however many there are.
+pub fn step_in(
+    words: &mut [u32],
+    process: u32,
+    nodes: &mut [u32],
+    versions: &mut [u32],
+    tally: &mut [u32],
+) -> Stepping
+    ensures { λ r. ⌜ steppedIn r (now (words .exit)) (now (nodes .exit)) (now (versions .exit)) (now (tally .exit))
+        ≡ stepIn (now (words .entry)) (now (nodes .entry)) (now (versions .entry)) (now (tally .entry)) process ⌝ }
+{
+    if State::PROCESSES <= process {
+        return step_past(words, process, nodes, versions, tally);
+    }
+    if !lawful_in(words, process, nodes, versions) {
+        return Stepping::Refused(Refusal::Corrupt);
+    }
+    step_known(words, process, nodes, versions, tally)
 }

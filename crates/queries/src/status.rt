@@ -9,6 +9,7 @@ use model::types::State;
 use model::types::Status;
 use refusals::permit::status_permit;
 
+// A call shows what it is and its ticks, and nothing of where it stands: that is no answer yet.
 fn standing(p: Process) -> Status
     ensures { λ r. ⌜ r ≡ standing (p .call .kind) p ⌝ }
 {
@@ -21,6 +22,7 @@ fn standing(p: Process) -> Status
     }
 }
 
+// Idle, or the call that runs. It is asked of the state alone, so that no table has to be at hand.
 pub fn status(s: State, process: u32) -> Status
     ensures { λ r. ⌜ r ≡ statusOf s process ⌝ }
 {

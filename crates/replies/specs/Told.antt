@@ -17,11 +17,14 @@ pub record Told : Type 0 where
   pub number : ℕ
   pub answer : List ℕ
 
+abbrev pub reply : (number : ℕ) → (answer : List ℕ) → Told
+reply n words = record { number = n; answer = words }
+
 abbrev pub refused : (words : ℕ) → Refusal → Told
-refused n r = record { number = numberOf r; answer = replicate n 0 }
+refused n r = reply (numberOf r) (replicate n 0)
 
 abbrev pub accepted : List ℕ → Told
-accepted words = record { number = 0; answer = words }
+accepted words = reply 0 words
 
 unfoldable pub openTold : Opening → ℕ
 openTold (Opening.Refused r) = numberOf r

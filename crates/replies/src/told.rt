@@ -1,7 +1,8 @@
-// What C is told of an outcome: the number to return, and the answer words.
+// What C is told of an outcome: the number to return, and the answer words. A refusal sets every answer word to 0, so that
+// nothing of an earlier call is left there to be taken for an answer.
 ghost use mathlib.Core.Path.{_≡_};
 ghost use mathlib.Core.List.{[], _∷_};
-ghost use Rattle.replies.specs.Told.{openTold, startTold, finishWords, stepTold, lookTold, inspectTold, statusTold};
+ghost use Rattle.replies.specs.Told.{reply, openTold, startTold, finishWords, stepTold, lookTold, inspectTold, statusTold};
 use model::numbers::number_of;
 use model::numbers::place_of;
 use model::types::Finish;
@@ -13,6 +14,7 @@ use model::types::Status;
 use model::types::Stepping;
 use process::numbers::kind_number;
 
+// An opening has no answer beside its number.
 pub fn tell_open(outcome: Opening) -> u32
     ensures { λ r. ⌜ r ≡ openTold outcome ⌝ }
 {
@@ -22,8 +24,9 @@ pub fn tell_open(outcome: Opening) -> u32
     }
 }
 
+// The tick, which is never 0 where the start was let pass.
 pub fn tell_start(outcome: Starting, tick: &mut u32) -> u32
-    ensures { λ r. ⌜ record { number = r; answer = now (tick .exit) ∷ [] } ≡ startTold outcome ⌝ }
+    ensures { λ r. ⌜ reply r (now (tick .exit) ∷ []) ≡ startTold outcome ⌝ }
 {
     match outcome {
         Starting::Refused(refusal) => {
@@ -37,7 +40,7 @@ pub fn tell_start(outcome: Starting, tick: &mut u32) -> u32
     }
 }
 
-// What a finishing step tells.
+// What a finishing step tells: the tick stands second in every step's answer, so the finish comes before the kind.
 fn finish_words(f: Finish) -> [u32; 8]
     ensures { λ r. ⌜ r ≡ finishWords f ⌝ }
 {
@@ -55,8 +58,9 @@ fn finish_words(f: Finish) -> [u32; 8]
     ]
 }
 
+// Eight words for every outcome, those that it does not use 0, so that a caller may read them all without a test.
 pub fn tell_step(outcome: Stepping, answer: &mut [u32; 8]) -> u32
-    ensures { λ r. ⌜ record { number = r; answer = now (answer .exit) } ≡ stepTold outcome ⌝ }
+    ensures { λ r. ⌜ reply r (now (answer .exit)) ≡ stepTold outcome ⌝ }
 {
     match outcome {
         Stepping::Refused(refusal) => {
@@ -78,8 +82,9 @@ pub fn tell_step(outcome: Stepping, answer: &mut [u32; 8]) -> u32
     }
 }
 
+// Value and timestamp: any two words may be a version, so that only the number tells a refusal from one of zeroes.
 pub fn tell_look(outcome: Looking, answer: &mut [u32; 2]) -> u32
-    ensures { λ r. ⌜ record { number = r; answer = now (answer .exit) } ≡ lookTold outcome ⌝ }
+    ensures { λ r. ⌜ reply r (now (answer .exit)) ≡ lookTold outcome ⌝ }
 {
     match outcome {
         Looking::Refused(refusal) => {
@@ -93,8 +98,9 @@ pub fn tell_look(outcome: Looking, answer: &mut [u32; 2]) -> u32
     }
 }
 
+// A fault is no refusal: the call did what was asked, and the number is 0.
 pub fn tell_inspect(outcome: Inspecting, answer: &mut [u32; 3]) -> u32
-    ensures { λ r. ⌜ record { number = r; answer = now (answer .exit) } ≡ inspectTold outcome ⌝ }
+    ensures { λ r. ⌜ reply r (now (answer .exit)) ≡ inspectTold outcome ⌝ }
 {
     match outcome {
         Inspecting::Refused(refusal) => {
@@ -112,8 +118,9 @@ pub fn tell_inspect(outcome: Inspecting, answer: &mut [u32; 3]) -> u32
     }
 }
 
+// The kind's number tells whether there is a call: it is 0 for a process that has none, as its two ticks are.
 pub fn tell_status(outcome: Status, answer: &mut [u32; 3]) -> u32
-    ensures { λ r. ⌜ record { number = r; answer = now (answer .exit) } ≡ statusTold outcome ⌝ }
+    ensures { λ r. ⌜ reply r (now (answer .exit)) ≡ statusTold outcome ⌝ }
 {
     match outcome {
         Status::Refused(refusal) => {

@@ -17,7 +17,8 @@ use phases::moves::is_refusal;
 use process::words::words_of;
 use transition::turn::turn;
 
-// `holder` is the process's number plus 1, `tick` that of this event.
+// The process after its step, for the caller to put back: where the step is refused, as it was. `holder` is the process's
+// number plus 1, `tick` that of this event.
 pub fn advance(
     p: Process,
     counts: Counts,
@@ -29,7 +30,8 @@ pub fn advance(
 ) -> Advanced
     requires { ⌜ Lent (now nodes) (now versions) counts ⌝ }
     requires { ⌜ length (now tally) ≡ limits .answers ⌝ }
-    ensures { λ r. ⌜ advanced r (now (nodes .exit)) (now (versions .exit)) (now (tally .exit)) ≡ advanceOf holder tick p (memory (now (nodes .entry)) (now (versions .entry)) counts) (now (tally .entry)) ⌝ }
+    ensures { λ r. ⌜ advanced r (now (nodes .exit)) (now (versions .exit)) (now (tally .exit))
+        ≡ advanceOf holder tick p (memory (now (nodes .entry)) (now (versions .entry)) counts) (now (tally .entry)) ⌝ }
 {
     let w = words_of(p);
     let t = turn(&w, counts, holder, tick, nodes, versions);

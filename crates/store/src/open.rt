@@ -11,8 +11,10 @@ use refusals::permit::open_permit;
 use tables::fresh::clear;
 use tables::fresh::clear_nodes;
 
+// A refused opening leaves both tables as they were, and still gives a state: a closed one, on which every call is refused.
 pub fn open(nodes: &mut [u32], versions: &mut [u32], processes: u32, limit: u32) -> OpenResult
-    ensures { λ r. ⌜ opened r (now (nodes .exit)) (now (versions .exit)) ≡ openOf (now (nodes .entry)) (now (versions .entry)) processes limit ⌝ }
+    ensures { λ r. ⌜ opened r (now (nodes .exit)) (now (versions .exit))
+        ≡ openOf (now (nodes .entry)) (now (versions .entry)) processes limit ⌝ }
 {
     let permit = open_permit(nodes, versions, processes, limit);
     match permit {

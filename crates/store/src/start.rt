@@ -1,8 +1,8 @@
 // Starts of a put and of a get.
 ghost use mathlib.Core.Path.{_≡_};
-ghost use Prim.Native.Nat.{_+_};
 ghost use Rattle.model.specs.Requests.{put, get};
-ghost use Rattle.model.specs.Calls.{startPermit, startBy, startOf};
+ghost use Rattle.model.specs.Calls.{startOf};
+ghost use Rattle.store.specs.Calls.{timed, startWith};
 use calls::begin::begin;
 use calls::begin::top_of;
 use calls::slot::slot;
@@ -15,25 +15,16 @@ use model::types::Starting;
 use model::types::State;
 use refusals::permit::start_permit;
 
-fn start(
-    mut s: State,
-    nodes: &[u32],
-    versions: &[u32],
-    process: u32,
-    kind: Kind,
-    key: u64,
-    value: u32,
-    timestamp: u32,
-    top: u32,
-) -> StartResult
-    ensures { λ r. ⌜ r ≡ startBy (startPermit s (now (nodes .entry)) (now (versions .entry)) process key) s process (record { kind = kind; key = key; value = value; timestamp = timestamp; top = top; start = s .events + 1 }) ⌝ }
+// What a put and a get share. `asked` is the call but for its tick, which a start has only where it is let pass.
+fn start(mut s: State, nodes: &[u32], versions: &[u32], process: u32, asked: Call) -> StartResult
+    ensures { λ r. ⌜ r ≡ startWith s (now (nodes .entry)) (now (versions .entry)) process (timed asked) ⌝ }
 {
     let i = slot(process);
     let p = s.process[i];
     let running = p.call;
     let held = running.kind;
     let h = header_of(s);
-    let permit = start_permit(&h, held, nodes, versions, process, key);
+    let permit = start_permit(&h, held, nodes, versions, process, asked.key);
     match permit {
         Permit::Denied(refusal) => StartResult {
             outcome: Starting::Refused(refusal),
@@ -41,14 +32,8 @@ fn start(
         },
         Permit::Granted => {
             let tick = s.events + 1;
-            let call = Call {
-                kind,
-                key,
-                value,
-                timestamp,
-                top,
-                start: tick,
-            };
+            let mut call = asked;
+            call.start = tick;
             s.process[i] = begin(call);
             s.events = tick;
             StartResult {
@@ -59,6 +44,7 @@ fn start(
     }
 }
 
+// A start reads the tables only for their lengths, and takes the top level from the draw at once, so that no draw is kept.
 pub fn start_put(
     s: State,
     nodes: &[u32],
@@ -72,21 +58,28 @@ pub fn start_put(
     ensures { λ r. ⌜ r ≡ startOf s (now (nodes .entry)) (now (versions .entry)) process (put key value timestamp draw) ⌝ }
 {
     let top = top_of(draw);
-    start(
-        s,
-        nodes,
-        versions,
-        process,
-        Kind::Put,
+    let asked = Call {
+        kind: Kind::Put,
         key,
         value,
         timestamp,
         top,
-    )
+        start: 0,
+    };
+    start(s, nodes, versions, process, asked)
 }
 
+// A get keeps the record of a put, with what it does not use at 0.
 pub fn start_get(s: State, nodes: &[u32], versions: &[u32], process: u32, key: u64) -> StartResult
     ensures { λ r. ⌜ r ≡ startOf s (now (nodes .entry)) (now (versions .entry)) process (get key) ⌝ }
 {
-    start(s, nodes, versions, process, Kind::Get, key, 0, 0, 0)
+    let asked = Call {
+        kind: Kind::Get,
+        key,
+        value: 0,
+        timestamp: 0,
+        top: 0,
+        start: 0,
+    };
+    start(s, nodes, versions, process, asked)
 }

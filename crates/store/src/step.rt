@@ -29,7 +29,8 @@ fn attempt(
     tally: &mut [u32],
 ) -> Advanced
     requires { ⌜ (permit ≡ Granted → Passed (now nodes) (now versions) counts (now tally) process events) ⌝ }
-    ensures { λ r. ⌜ advanced r (now (nodes .exit)) (now (versions .exit)) (now (tally .exit)) ≡ attemptOf permit process events p (memory (now (nodes .entry)) (now (versions .entry)) counts) (now (tally .entry)) ⌝ }
+    ensures { λ r. ⌜ advanced r (now (nodes .exit)) (now (versions .exit)) (now (tally .exit))
+        ≡ attemptOf permit process events p (memory (now (nodes .entry)) (now (versions .entry)) counts) (now (tally .entry)) ⌝ }
 {
     match permit {
         Permit::Denied(refusal) => Advanced {
@@ -50,7 +51,8 @@ pub fn step(
     versions: &mut [u32],
     tally: &mut [u32],
 ) -> StepResult
-    ensures { λ r. ⌜ stepped r (now (nodes .exit)) (now (versions .exit)) (now (tally .exit)) ≡ stepOf (storeOf s (now (nodes .entry)) (now (versions .entry)) (now (tally .entry))) process ⌝ }
+    ensures { λ r. ⌜ stepped r (now (nodes .exit)) (now (versions .exit)) (now (tally .exit))
+        ≡ stepOf (storeOf s (now (nodes .entry)) (now (versions .entry)) (now (tally .entry))) process ⌝ }
 {
     let i = slot(process);
     let p = s.process[i];

@@ -17,7 +17,7 @@ use Rattle.model.specs.Linearizability.{Linearizable}
 use Rattle.model.proofs.Laws.{granted-fits}
 use Rattle.linearizability.proofs.Simulated.{Same, SameOpening, Simulates, simulated}
 use Rattle.linearizability.proofs.Linearized as by-value
-use Rattle.buffers.specs.Session.{Session, session, Done, lent, back, tableWords, buffers, openedOn, startedOn, steppedOn, openOn, callOn}
+use Rattle.buffers.specs.Session.{Session, session, Done, lent, back, tableWords, buffers, openedOn, started, startedOn, steppedOn, openOn, callOn}
 use Rattle.executor.specs.Perform.{performOf}
 use Rattle.buffers.proofs.Laws.{asked-permit}
 use Rattle.transcript.specs.Types.{Command, Open, Step, Look, Inspect, Call, Lengths, State, Permit, Granted, Denied, StartResult, Inspecting}
@@ -59,7 +59,7 @@ state-by Granted s i call = (refl, refl)
 
 module _ (w : Session) (s : Stands w) (i : ℕ) where
   start-called : (r : StartResult) → (r .state .lengths ≡ w .state .lengths) × (r .state .opened ≡ w .state .opened)
-      → Same Holds (answered startMeant (startedOn w i r))
+      → Same Holds (answered startMeant (startedOn w (started i r)))
       (record { outcome = r .outcome; store = withState (lent w) (r .state) })
   start-called r e = (
     start-meant i (r .outcome),

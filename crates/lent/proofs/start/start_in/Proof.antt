@@ -1,18 +1,18 @@
 -- A start that is let pass writes its process into its part of the words: Laws `start-granted`.
-use Prim.Native.Nat.{ℕ, _+_, _-_, _<_}
+use Prim.Native.Nat.{ℕ, _<_}
 use mathlib.Core.Bool.{true}
-use mathlib.Core.Path.{_≡_, sym, ap, _∙_}
+use mathlib.Core.Path.{_≡_, refl, sym, _∙_}
 use native.Mathlib.Omega.{arith}
 use lib.ListN.{length}
 use borrow.Author.Needs.{needs}
 use borrow.Author.Tests.{not-true, not-false}
-use borrow.Rule.Slice.PartMut.{same-len-mid}
 use Rattle.model.specs.declared.types.Call.{Call}
 use Rattle.model.specs.Calls.{startPermit}
 use Rattle.refusals.proofs.Laws.{MayStart, may-start}
-use Rattle.process.specs.ProcessWords.{sizes, processWords}
-use Rattle.layout.specs.StateWords.{stateFrom, isState, startOf}
+use Rattle.process.specs.ProcessWords.{sizes}
+use Rattle.layout.specs.StateWords.{stateFrom, isState}
 use Rattle.layout.proofs.Written.{state-at, header-at, events-at}
+use Rattle.lent.specs.Calls.{callWith}
 use Rattle.lent.proofs.Laws.{kind-at, start-unknown, start-denied, start-granted, state-long}
 use Rattle.lent.proofs.start.start_in.Statement.{statement}
 use Rattle.lent.proofs.start.start_in.Tie as tie
@@ -22,14 +22,7 @@ start c = c .before .before .before .before .before .before .before .before .bef
 
 -- the call at a tick
 abbrev call : tie.Start → ℕ → Call
-call c t = let a = c .args in record {
-  kind = a .kind;
-  key = a .key;
-  value = a .value;
-  timestamp = a .timestamp;
-  top = a .top;
-  start = t;
-}
+call c t = let a = c .args in callWith (a .kind) (a .key) (a .value) (a .timestamp) (a .top) t
 
 known : (c : tie.Else1) → isState (c .before .before .before .before .before .before .args .words .now) ≡ true
 known c = sym (c .before .is-state .ensures) ∙ not-false _ (c .if1 .left)
@@ -101,9 +94,6 @@ enum-known-permit c = search needs
 enum-told : tie.Need-enum-told
 enum-told c = search needs
 
-add-end : tie.Need-add-end
-add-end c = search needs
-
 slice-read-tick : tie.Need-slice-read-tick
 slice-read-tick c = let l = long (c .before .before .before .before .before .before .before .before .before) in omega arith
 
@@ -113,33 +103,10 @@ add-tick c =
     let l = f .lawful .limit in
     omega (arith, f .event, events-at (start (c .before .before .before) .args .words .now))
 
-begin-requires : tie.Need-begin-requires
-begin-requires c κs = search needs
-
-counts-in-requires : tie.Need-counts-in-requires
-counts-in-requires c κs = long (c .before .before .before .before .before .before .before .before .before .before .before)
-
-mul-put-process : tie.Need-mul-put-process
-mul-put-process c = search needs
-
-sub-put-process : tie.Need-sub-put-process
-sub-put-process c = search needs
-
-part-put-process-start : tie.Need-part-put-process-start
-part-put-process-start c = search needs
-
-part-put-process-end : tie.Need-part-put-process-end
-part-put-process-end c = let l = long (c .before .before .before .before .before .before .before .before .before .before .before .before) in let f = c .before .before .before .before .before .before .before .before .before .before .before .slot .ensures .0 in omega arith
-
-put-process-requires : tie.Need-put-process-requires
-put-process-requires c κs = search needs
-
-put-event-requires : tie.Need-put-event-requires
-put-event-requires c κs =
-    let e = c .before .before .before .before .before .before .before .before .before in
-    let at = startOf (c .before .before .before .before .before .before .before .before .before .before .before .before .before .before .before .before .slot .result) in
-    let v = c .before .before .before .put-process in
-    same-len-mid at (at + sizes .process - at) (start (e .before .before) .args .words .now) (v .last .0) (v .kept .0) ∙ long (c .before .before .before .before .before .before .before .before .before .before .before .before .before .before .before .before .before)
+begin-in-requires : tie.Need-begin-in-requires
+begin-in-requires c κs =
+    let f = c .before .before .before .before .before .before .before .before .before .slot .ensures .0 in
+    (long (c .before .before .before .before .before .before .before .before .before .before), omega (arith, f))
 
 same-length-2 : tie.Need-same-length-2
 same-length-2 c = search needs
@@ -153,11 +120,11 @@ same-length-3 c = search needs
 
 returns-3 : tie.Need-returns-3
 returns-3 c =
-    let e = c .before .before .before .before .before .before .before .before .before .before .before .before in
+    let e = c .before .before .before .before .before in
     let s = start (e .before .before) in
-    start-granted _ _ _ (λ t. call s t) (known (c .before .before .before .before .before .before .before .before .before .before .before .before .before .before .before .before .before .before .before .before)) _ _ _ _ _ (sym (permit-is (e .before .before)) ∙ e .enum-told .given .1)
-    (events-at (s .args .words .now)) (c .before .before .before .before .before .before .before .before .counts-in .ensures) (c .before .before .before .before .before .before .before .before .before .before .before .before .before .before .before .before .before .before .before .slot .ensures .1 (few e)) (few e)
-    (c .before .before .before .before .before .before .put-process .ensures ∙ ap processWords (c .before .before .before .before .before .before .before .before .before .before .begin .ensures)) (c .before .before .put-event .ensures)
+    start-granted _ _ _ (λ t. call s t) (known (c .before .before .before .before .before .before .before .before .before .before .before .before .before)) _ _ _ (sym (permit-is (e .before .before)) ∙ e .enum-told .given .1)
+    (events-at (s .args .words .now)) (c .before .before .before .before .before .before .before .before .before .before .before .before .slot .ensures .1 (few e)) (few e)
+    (λ t. refl) (c .before .before .begin-in .ensures)
 
 pub start-in-spec : {M : Type 1} → statement M
 start-in-spec =
@@ -178,17 +145,9 @@ start-in-spec =
     start-permit-requires
     enum-known-permit
     enum-told
-    add-end
     slice-read-tick
     add-tick
-    begin-requires
-    counts-in-requires
-    mul-put-process
-    sub-put-process
-    part-put-process-start
-    part-put-process-end
-    put-process-requires
-    put-event-requires
+    begin-in-requires
     same-length-2
     returns-2
     same-length-3

@@ -9,7 +9,7 @@ use Rattle.store.proofs.start.start.Tie as tie
 
 -- the permit is the definition's: the kind was read at the process's own place
 permit-is : (c : tie.After-start-permit) → let a = c .before .before .before .before .before .before .before .before .args in
-    c .start-permit .result ≡ startPermit (a .t1) (a .nodes .now) (a .versions .now) (a .process) (a .key)
+    c .start-permit .result ≡ startPermit (a .t1) (a .nodes .now) (a .versions .now) (a .process) (a .asked .key)
 permit-is c =
     c .start-permit .ensures _
     (record {
@@ -51,8 +51,8 @@ add-tick c = let f = may c in search needs
 begin-requires : tie.Need-begin-requires
 begin-requires c κs = search needs
 
-mul-t33 : tie.Need-mul-t33
-mul-t33 c = search needs
+mul-t29 : tie.Need-mul-t29
+mul-t29 c = search needs
 
 element-set-from-s : tie.Need-element-set-from-s
 element-set-from-s c = search needs
@@ -73,4 +73,4 @@ start-spec =
     tie.close
     (tie.spec
     slot-requires mul-p element-copy-out-p header-of-requires slice-aggregate-start-permit start-permit-requires enum-known-permit enum-told
-    add-tick begin-requires mul-t33 element-set-from-s returns returns-2)
+    add-tick begin-requires mul-t29 element-set-from-s returns returns-2)
