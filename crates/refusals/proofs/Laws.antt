@@ -1,7 +1,7 @@
 -- Laws of the refusals: what a test tells, and what a call that is not refused may go by.
 use Prim.Native.Nat.{ℕ, zero, suc, _+_, _-_, _*_, _/_, _≤_, _<_}
 use mathlib.Core.Bool.{Bool, true, false, not, _&&_, and-eq-true-iff}
-use mathlib.Core.List.{List}
+use mathlib.Core.List.{List, [], _∷_}
 use mathlib.Core.Path.{_≡_, refl, sym, _∙_}
 use native.Mathlib.Nat.{div-add-mod, div-le-of-le-mul, le-div-iff-mul-le, mul-le-mul-left}
 use native.Mathlib.Numerals.{unary-clauses}
@@ -11,7 +11,8 @@ use lib.Dec.{leb, ltb, eqb}
 use lib.ListN.{length}
 use Rattle.model.specs.declared.types.Kind.{Kind}
 use Rattle.model.specs.declared.types.Permit.{Permit}
-use Rattle.model.specs.declared.types.Permit.the-variants.{Granted}
+use Rattle.model.specs.declared.types.Permit.the-variants.{Granted, Denied}
+use Rattle.model.specs.declared.types.Refusal.{Refusal}
 use Rattle.model.specs.declared.types.Refusal.the-variants.{Corrupt, NoProcess, BadKey, Busy, NoCall, Spent}
 use Rattle.model.specs.declared.types.State.{State}
 use Rattle.model.specs.Layout.{limits, nodeWords, versionWords, capacity}
@@ -21,11 +22,42 @@ use Rattle.model.specs.Inspection.{idleBelow}
 use Rattle.model.specs.Roles.{isIdle}
 use Rattle.model.proofs.Laws.{granted-iff}
 use Rattle.model.proofs.Tests.{leb-iff, eqb-iff}
+use Rattle.refusals.specs.Order.{orElse}
 
 -- one test that fails is enough
 pub and-false : (b : Bool) → (b && false) ≡ false
 and-false true = refl
 and-false false = refl
+
+-- a refusal and whether its condition is met
+pub record Condition : Type 0 where
+  pub met : Bool
+  pub refusal : Refusal
+
+abbrev pub when : Bool → Refusal → Condition
+when b r = record { met = b; refusal = r }
+
+-- refusals put together from the first to the last, as the code does, and as the definitions have them
+abbrev pub forwards : Permit → List Condition → Permit
+forwards p [] = p
+forwards p (c ∷ cs) = forwards (orElse p (denyIf (c .met) (c .refusal) Granted)) cs
+
+abbrev pub nested : List Condition → Permit
+nested [] = Granted
+nested (c ∷ cs) = denyIf (c .met) (c .refusal) (nested cs)
+
+denied-stays : (r : Refusal) (cs : List Condition) → forwards (Denied r) cs ≡ Denied r
+denied-stays r [] = refl
+denied-stays r (c ∷ cs) = denied-stays r cs
+
+first-by : (b : Bool) (r : Refusal) (cs : List Condition) → forwards Granted cs ≡ nested cs
+    → forwards (denyIf b r Granted) cs ≡ denyIf b r (nested cs)
+first-by true r cs e = denied-stays r cs
+first-by false r cs e = e
+
+pub first-met : (cs : List Condition) → forwards Granted cs ≡ nested cs
+first-met [] = refl
+first-met (c ∷ cs) = first-by (c .met) (c .refusal) cs (first-met cs)
 
 -- four tests after others, taken two by two: the first with the third
 pub in-pairs : (before a b c d : Bool) → before && a && b && c && d ≡ before && (a && c) && (b && d)

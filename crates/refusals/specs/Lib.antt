@@ -1,1 +1,2 @@
-pub mod Shows
+pub mod Agrees
+pub mod Order

@@ -1,14 +1,15 @@
 // The refusals of each call, in document 01's order: the first condition met decides. A local named by a number has that
-// refusal and all that come after it.
+// refusal or one that comes before it.
 ghost use mathlib.Core.Path.{_≡_};
-ghost use mathlib.Core.Bool.{not};
 ghost use Prim.Native.Nat.{_≤_};
 ghost use Rattle.model.specs.declared.types.State.{State};
 ghost use Rattle.model.specs.Layout.{limits};
 ghost use Rattle.model.specs.Calls.{denyIf, openPermit, startPermit, stepPermit, lookPermit, statusPermit, storeOf};
 ghost use Rattle.model.specs.Inspection.{idleBelow, inspectPermit};
 ghost use Rattle.layout.specs.Head.{headerWords, headerOf};
-ghost use Rattle.refusals.specs.Shows.{Shows};
+ghost use Rattle.refusals.specs.Agrees.{Agrees};
+ghost use Rattle.refusals.specs.Order.{orElse};
+ghost use Rattle.model.specs.declared.types.Permit.the-variants.{Granted};
 ghost use lib.ListN.{length};
 use crate::lawful::lawful_key;
 use crate::lawful::lawful_nodes;
@@ -25,19 +26,17 @@ use model::types::Permit;
 use model::types::Refusal;
 use model::types::State;
 
-fn deny_if(met: bool, refusal: Refusal, rest: Permit) -> Permit
-    ensures { λ r. ⌜ r ≡ denyIf met refusal rest ⌝ }
+// The refusal already given, or this one if its condition is met.
+fn or_if(given: Permit, met: bool, refusal: Refusal) -> Permit
+    ensures { λ r. ⌜ r ≡ orElse given (denyIf met refusal Granted) ⌝ }
 {
-    if met { Permit::Denied(refusal) } else { rest }
-}
-
-fn deny_unless(lawful: bool, refusal: Refusal, rest: Permit) -> Permit
-    ensures { λ r. ⌜ r ≡ denyIf (not lawful) refusal rest ⌝ }
-{
-    if lawful {
-        rest
-    } else {
-        Permit::Denied(refusal)
+    match given {
+        Permit::Denied(earlier) => Permit::Denied(earlier),
+        Permit::Granted => if met {
+            Permit::Denied(refusal)
+        } else {
+            Permit::Granted
+        },
     }
 }
 
@@ -48,10 +47,10 @@ pub fn open_permit(nodes: &[u32], versions: &[u32], processes: u32, limit: u32) 
     let version_length = lawful_versions(versions.len());
     let process_count = within(1, State::PROCESSES, processes);
     let event_limit = within(1, State::EVENTS, limit);
-    let four = deny_unless(event_limit, Refusal::EventLimit, Permit::Granted);
-    let three = deny_unless(process_count, Refusal::ProcessCount, four);
-    let two = deny_unless(version_length, Refusal::VersionLength, three);
-    deny_unless(node_length, Refusal::NodeLength, two)
+    let one = or_if(Permit::Granted, !node_length, Refusal::NodeLength);
+    let two = or_if(one, !version_length, Refusal::VersionLength);
+    let three = or_if(two, !process_count, Refusal::ProcessCount);
+    or_if(three, !event_limit, Refusal::EventLimit)
 }
 
 // `kind` is that of the process's call.
@@ -64,18 +63,19 @@ pub fn start_permit(
     key: Key,
 ) -> Permit
     requires { ⌜ length (now h) ≡ headerWords ⌝ }
-    ensures { λ r. ⌜ ((s : State) → Shows s process (now (h .entry)) kind → r ≡ startPermit s (now (nodes .entry)) (now (versions .entry)) process key) ⌝ }
+    ensures { λ r. ⌜ ((s : State) → Agrees s process (now (h .entry)) kind → r
+        ≡ startPermit s (now (nodes .entry)) (now (versions .entry)) process key) ⌝ }
 {
     let lawful = lawful_store(h, nodes, versions);
     let no_process = h[HeaderOffsets::PROCESSES] <= process;
     let in_range = lawful_key(key);
     let idle = is_idle(kind);
     let spent = h[HeaderOffsets::LIMIT] <= h[HeaderOffsets::EVENTS];
-    let nine = deny_if(spent, Refusal::Spent, Permit::Granted);
-    let seven = deny_unless(idle, Refusal::Busy, nine);
-    let six = deny_unless(in_range, Refusal::BadKey, seven);
-    let five = deny_if(no_process, Refusal::NoProcess, six);
-    deny_unless(lawful, Refusal::Corrupt, five)
+    let ten = or_if(Permit::Granted, !lawful, Refusal::Corrupt);
+    let five = or_if(ten, no_process, Refusal::NoProcess);
+    let six = or_if(five, !in_range, Refusal::BadKey);
+    let seven = or_if(six, !idle, Refusal::Busy);
+    or_if(seven, spent, Refusal::Spent)
 }
 
 // `kind` is that of the process's call. Left at the first refusal: it is asked most.
@@ -88,7 +88,8 @@ pub fn step_permit(
     process: u32,
 ) -> Permit
     requires { ⌜ length (now h) ≡ headerWords ⌝ }
-    ensures { λ r. ⌜ ((s : State) → Shows s process (now (h .entry)) kind → r ≡ stepPermit (storeOf s (now (nodes .entry)) (now (versions .entry)) (now (tally .entry))) process) ⌝ }
+    ensures { λ r. ⌜ ((s : State) → Agrees s process (now (h .entry)) kind → r
+        ≡ stepPermit (storeOf s (now (nodes .entry)) (now (versions .entry)) (now (tally .entry))) process) ⌝ }
 {
     if !lawful_store(h, nodes, versions) {
         return Permit::Denied(Refusal::Corrupt);
@@ -114,8 +115,8 @@ pub fn look_permit(h: &[u32], nodes: &[u32], versions: &[u32], key: Key) -> Perm
 {
     let lawful = lawful_store(h, nodes, versions);
     let in_range = lawful_key(key);
-    let six = deny_unless(in_range, Refusal::BadKey, Permit::Granted);
-    deny_unless(lawful, Refusal::Corrupt, six)
+    let ten = or_if(Permit::Granted, !lawful, Refusal::Corrupt);
+    or_if(ten, !in_range, Refusal::BadKey)
 }
 
 pub fn status_permit(h: &[u32], process: u32) -> Permit
@@ -124,8 +125,8 @@ pub fn status_permit(h: &[u32], process: u32) -> Permit
 {
     let lawful = lawful_state(h);
     let no_process = h[HeaderOffsets::PROCESSES] <= process;
-    let five = deny_if(no_process, Refusal::NoProcess, Permit::Granted);
-    deny_unless(lawful, Refusal::Corrupt, five)
+    let ten = or_if(Permit::Granted, !lawful, Refusal::Corrupt);
+    or_if(ten, no_process, Refusal::NoProcess)
 }
 
 // Whether none of the first `n` processes has a call.
@@ -152,10 +153,11 @@ pub fn inspect_permit(s: State, nodes: &[u32], versions: &[u32]) -> Permit
     ensures { λ r. ⌜ r ≡ inspectPermit s (now (nodes .entry)) (now (versions .entry)) ⌝ }
 {
     let h = header_of(s);
-    if lawful_store(&h, nodes, versions) {
-        let idle = idle_below(s, s.processes);
-        deny_unless(idle, Refusal::Busy, Permit::Granted)
-    } else {
-        Permit::Denied(Refusal::Corrupt)
+    if !lawful_store(&h, nodes, versions) {
+        return Permit::Denied(Refusal::Corrupt);
     }
+    if !idle_below(s, s.processes) {
+        return Permit::Denied(Refusal::Busy);
+    }
+    Permit::Granted
 }

@@ -1,5 +1,6 @@
 -- A lawful state has at most eight processes, so the loop stays in the array.
 use mathlib.Core.Path.{sym, _∙_}
+use borrow.Author.Tests.{not-true, not-false}
 use Rattle.model.specs.Inspection.{inspectPermit}
 use Rattle.refusals.proofs.Laws.{lawful-store}
 use borrow.Author.Needs.{needs}
@@ -15,32 +16,30 @@ slice-aggregate-lawful-store c = search needs
 lawful-store-requires : tie.Need-lawful-store-requires
 lawful-store-requires c κs = search needs
 
+returns : tie.Need-returns
+unfolding inspectPermit
+returns c = simp (sym (c .before .lawful-store .ensures (c .before .before .before .before .before .before .args .s) (sym (c .before .before .before .header-of .ensures))) ∙ not-true _ (c .if1 .taken))
+
 idle-below-requires : tie.Need-idle-below-requires
 idle-below-requires c κs =
     let a = c .before .before .before .before .before .before .args in
     let f = lawful-store (a .s) (a .nodes .now) (a .versions .now)
-    (sym (c .before .lawful-store .ensures (a .s) (sym (c .before .before .before .header-of .ensures))) ∙ c .if1 .taken) in
+    (sym (c .before .lawful-store .ensures (a .s) (sym (c .before .before .before .header-of .ensures))) ∙ not-false _ (c .if1 .left)) in
     search needs
-
-deny-unless-requires : tie.Need-deny-unless-requires
-deny-unless-requires c κs = search needs
-
-returns : tie.Need-returns
-unfolding inspectPermit
-returns c =
-    let s = c .before .before .before .before .before .before .before .before .args .s in
-    simp (
-      c .deny-unless .ensures,
-      c .before .idle-below .ensures,
-      ← (c .before .before .before .lawful-store .ensures s (sym (c .before .before .before .before .before .header-of .ensures))),
-      c .before .before .if1 .taken,
-    )
 
 returns-2 : tie.Need-returns-2
 unfolding inspectPermit
-returns-2 c =
-    let s = c .before .before .before .before .before .before .args .s in
-    simp (← (c .before .lawful-store .ensures s (sym (c .before .before .before .header-of .ensures))), c .if1 .left)
+returns-2 c = simp (
+  sym (c .before .before .before .lawful-store .ensures (c .before .before .before .before .before .before .before .before .args .s) (sym (c .before .before .before .before .before .header-of .ensures))) ∙ not-false _ (c .before .before .if1 .left),
+  sym (c .before .idle-below .ensures) ∙ not-true _ (c .if2 .taken),
+)
+
+returns-3 : tie.Need-returns-3
+unfolding inspectPermit
+returns-3 c = simp (
+  sym (c .before .before .before .lawful-store .ensures (c .before .before .before .before .before .before .before .before .args .s) (sym (c .before .before .before .before .before .header-of .ensures))) ∙ not-false _ (c .before .before .if1 .left),
+  sym (c .before .idle-below .ensures) ∙ not-false _ (c .if2 .left),
+)
 
 pub inspect-permit-spec : {M : Type 1} → statement M
 inspect-permit-spec =
@@ -49,7 +48,7 @@ inspect-permit-spec =
     header-of-requires
     slice-aggregate-lawful-store
     lawful-store-requires
-    idle-below-requires
-    deny-unless-requires
     returns
-    returns-2)
+    idle-below-requires
+    returns-2
+    returns-3)

@@ -1,9 +1,14 @@
--- The refusals are built from the last to the first; the kind counts only for a number below the count.
-use mathlib.Core.Path.{ap}
+-- The refusals are put together from the first to the last; the kind counts only for a number below the count.
+use mathlib.Core.Bool.{not}
+use Rattle.model.specs.declared.types.Refusal.the-variants.{Corrupt, NoProcess, BadKey, Busy, Spent}
+use Rattle.model.specs.Roles.{isIdle}
+use Rattle.model.specs.State.{lawfulStore, lawfulKey}
+use mathlib.Core.List.{[], _∷_}
+use Rattle.refusals.proofs.Laws.{when, first-met, start-kind}
+use Rattle.layout.specs.Head.{headerOffsets}
 use lib.Dec.{leb}
 use lib.ListN.{getD}
-use Rattle.layout.specs.Head.{headerOffsets}
-use Rattle.refusals.proofs.Laws.{start-kind}
+use mathlib.Core.Path.{ap}
 use borrow.Author.Needs.{needs}
 use Rattle.refusals.proofs.permit.start_permit.Statement.{statement}
 use Rattle.refusals.proofs.permit.start_permit.Tie as tie
@@ -26,39 +31,43 @@ shared-slice-read-spent c = search needs
 shared-slice-read-spent-2 : tie.Need-shared-slice-read-spent-2
 shared-slice-read-spent-2 c = search needs
 
-deny-if-requires : tie.Need-deny-if-requires
-deny-if-requires c κs = search needs
+or-if-requires : tie.Need-or-if-requires
+or-if-requires c κs = search needs
 
-deny-unless-requires : tie.Need-deny-unless-requires
-deny-unless-requires c κs = search needs
+or-if-requires-2 : tie.Need-or-if-requires-2
+or-if-requires-2 c κs = search needs
 
-deny-unless-requires-2 : tie.Need-deny-unless-requires-2
-deny-unless-requires-2 c κs = search needs
+or-if-requires-3 : tie.Need-or-if-requires-3
+or-if-requires-3 c κs = search needs
 
-deny-if-requires-2 : tie.Need-deny-if-requires-2
-deny-if-requires-2 c κs = search needs
+or-if-requires-4 : tie.Need-or-if-requires-4
+or-if-requires-4 c κs = search needs
 
-deny-unless-requires-3 : tie.Need-deny-unless-requires-3
-deny-unless-requires-3 c κs = search needs
+or-if-requires-5 : tie.Need-or-if-requires-5
+or-if-requires-5 c κs = search needs
 
 returns : tie.Need-returns
 returns c =
     λ s e.
     let a = c .before .before .before .before .before .before .before .before .before .before .before .before .before .before .args in
-    let k = start-kind s (a .nodes .now) (a .versions .now) (a .process) (a .kind) (e .found) in
     simp (
-      k,
-      c .deny-unless3 .ensures,
-      c .before .deny-if2 .ensures,
-      c .before .before .deny-unless2 .ensures,
-      c .before .before .before .deny-unless .ensures,
-      c .before .before .before .before .deny-if .ensures,
+      start-kind s (a .nodes .now) (a .versions .now) (a .process) (a .kind) (e .found),
+      c .or-if5 .ensures,
+      c .before .or-if4 .ensures,
+      c .before .before .or-if3 .ensures,
+      c .before .before .before .or-if2 .ensures,
+      c .before .before .before .before .or-if .ensures,
       c .before .before .before .before .before .before .before .is-idle .ensures,
       c .before .before .before .before .before .before .before .before .lawful-key .ensures,
       c .before .before .before .before .before .before .before .before .before .before .lawful-store .ensures s (e .same),
       ap (λ h. leb (getD h (headerOffsets .processes) 0) (a .process)) (e .same),
       ap (λ h. leb (getD h (headerOffsets .limit) 0) (getD h (headerOffsets .events) 0)) (e .same),
-    )
+    ) (first-met (
+    when (not (lawfulStore s (a .nodes .now) (a .versions .now))) Corrupt
+    ∷ when (leb (getD (a .h .now) (headerOffsets .processes) 0) (a .process)) NoProcess
+    ∷ when (not (lawfulKey (a .key))) BadKey
+    ∷ when (not (isIdle (a .kind))) Busy
+    ∷ when (leb (getD (a .h .now) (headerOffsets .limit) 0) (getD (a .h .now) (headerOffsets .events) 0)) Spent ∷ []))
 
 pub start-permit-spec : {M : Type 1} → statement M
 start-permit-spec =
@@ -70,9 +79,9 @@ start-permit-spec =
     is-idle-requires
     shared-slice-read-spent
     shared-slice-read-spent-2
-    deny-if-requires
-    deny-unless-requires
-    deny-unless-requires-2
-    deny-if-requires-2
-    deny-unless-requires-3
+    or-if-requires
+    or-if-requires-2
+    or-if-requires-3
+    or-if-requires-4
+    or-if-requires-5
     returns)

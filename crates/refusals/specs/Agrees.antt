@@ -10,6 +10,6 @@ use Rattle.layout.specs.Head.{headerOf}
 
 -- The state has this header, and its process i a call of this kind. A number past the last process is refused before a
 -- kind is looked at.
-pub record Shows (s : State) (i : ℕ) (h : List ℕ) (kind : Kind) : Type 0 where
+pub record Agrees (s : State) (i : ℕ) (h : List ℕ) (kind : Kind) : Type 0 where
   pub same : headerOf s ≡ h
   pub found : i < limits .processes → processAt s i .call .kind ≡ kind
