@@ -6,6 +6,7 @@ ghost use Rattle.buffers.specs.Session.{session, done, started, startOn,
 use crate::lend::asked;
 use crate::lend::held;
 use crate::types::Performed;
+use model::types::Key;
 use model::types::StartResult;
 use model::types::State;
 use printer::answer::of_inspect;
@@ -62,7 +63,7 @@ fn started(process: u32, r: StartResult) -> Performed
 pub fn put_on(
     s: State,
     process: u32,
-    key: u64,
+    key: Key,
     value: u32,
     timestamp: u32,
     draw: u16,
@@ -88,7 +89,7 @@ pub fn put_on(
 }
 
 // As a put, with no reading and no draw.
-pub fn get_on(s: State, process: u32, key: u64, nodes: &[u32], versions: &[u32]) -> Performed
+pub fn get_on(s: State, process: u32, key: Key, nodes: &[u32], versions: &[u32]) -> Performed
     ensures { λ r. ⌜ r ≡ startOn s (now (nodes .entry)) (now (versions .entry)) process (get key) ⌝ }
 {
     let n = held(nodes, s.lengths.nodes);
@@ -118,7 +119,7 @@ pub fn step_on(
 }
 
 // Its line names the key and the place that were asked for, so it takes them beside the outcome.
-pub fn look_on(s: State, key: u64, back: u32, nodes: &[u32], versions: &[u32]) -> Line
+pub fn look_on(s: State, key: Key, back: u32, nodes: &[u32], versions: &[u32]) -> Line
     ensures { λ r. ⌜ r ≡ lookOn s (now (nodes .entry)) (now (versions .entry)) key back ⌝ }
 {
     let n = held(nodes, s.lengths.nodes);

@@ -11,9 +11,9 @@ use Rattle.model.specs.declared.types.Refusal.the-variants.{Damaged}
 use Rattle.model.specs.declared.types.Stepping.{Stepping}
 use Rattle.model.specs.Layout.{Memory}
 use Rattle.model.specs.State.{processAt, memoryOf, withEvent}
-use Rattle.model.specs.Phases.{Moved, moved, turnOf, refuses}
+use Rattle.model.specs.Phases.{Moved, moved, transitionOf, refuses}
 use Rattle.model.specs.Calls.{stepPermit, Store, Stepped, stepBy, stepOf, processAfter, outcomeOf, tallyAfter}
-use Rattle.model.proofs.Laws.{refused-is, turn-keeps}
+use Rattle.model.proofs.Laws.{refused-is, transition-keeps}
 use Rattle.tables.specs.Room.{Lent, memory}
 use Rattle.refusals.proofs.Laws.{MayStep}
 use Rattle.calls.specs.Advance.{Advance, advanceBy, advanceOf}
@@ -90,7 +90,7 @@ module _
     (is : a ≡ advanceIn w i j counts)
   where
     turned : Moved
-    turned = turnOf (i + 1) (w .state .events + 1) (processAt (w .state) i) (memoryOf (w .state) (w .nodes) (w .versions))
+    turned = transitionOf (i + 1) (w .state .events + 1) (processAt (w .state) i) (memoryOf (w .state) (w .nodes) (w .versions))
 
     found : a ≡ advanceIn w i i (w .state .counts)
     found = is ∙ ap (λ j. advanceIn w i j counts) slot ∙ ap (advanceIn w i i) header
@@ -100,7 +100,7 @@ module _
     step-stays e =
         let f = sym (ap (λ a. a .refused) found) ∙ e in
         ap (stays w) found
-        ∙ stays-by w i turned f (turn-keeps _ _ _ _ .refused (refused-is _ f))
+        ∙ stays-by w i turned f (transition-keeps _ _ _ _ .refused (refused-is _ f))
         ∙ sym (ap (λ p. stepBy p w i turned) granted)
 
     pub step-moves : a .refused ≡ false → moves w j a ≡ stepOf w i

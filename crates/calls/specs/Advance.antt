@@ -5,7 +5,7 @@ use mathlib.Core.List.{List}
 use Rattle.model.specs.declared.types.Process.{Process}
 use Rattle.model.specs.declared.types.Stepping.{Stepping}
 use Rattle.model.specs.Layout.{Memory}
-use Rattle.model.specs.Phases.{Moved, turnOf, refuses}
+use Rattle.model.specs.Phases.{Moved, transitionOf, refuses}
 use Rattle.model.specs.Calls.{processAfter, outcomeOf, tallyAfter}
 use Rattle.tables.specs.Room.{memory}
 
@@ -26,4 +26,4 @@ advanceBy tick p tally v = record {
 }
 
 unfoldable pub advanceOf : (holder tick : ℕ) → Process → Memory → (tally : List ℕ) → Advance
-advanceOf holder tick p m tally = advanceBy tick p tally (turnOf holder tick p m)
+advanceOf holder tick p m tally = advanceBy tick p tally (transitionOf holder tick p m)

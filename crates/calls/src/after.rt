@@ -10,11 +10,12 @@ use model::types::Finish;
 use model::types::Move;
 use model::types::Process;
 use model::types::Refusal;
+use model::types::State;
 use model::types::Stepping;
 use tally::count::count;
 
 // The process with its predecessor remembered at its level.
-fn remember(p: Process) -> [u32; 6]
+fn remember(p: Process) -> [u32; State::LEVELS]
     requires { ⌜ p .cursor .level ≤ topLevel ⌝ }
     ensures { λ r. ⌜ r ≡ set (p .preds) (p .cursor .level) (p .cursor .pred) ⌝ }
 {

@@ -35,7 +35,7 @@ pub fn begin(call: Call) -> Process
         answer: Answer::None,
         tick: 0,
     };
-    let preds = [0; 6];
+    let preds = [0; State::LEVELS];
     Process {
         call,
         cursor,

@@ -7,6 +7,7 @@ ghost use Rattle.decoder.specs.Commands.{bigEndian, total, commandWith, 
 use crate::types::Command;
 use crate::types::Decoded;
 use model::halves::joined;
+use model::types::Key;
 
 // The number that bytes make, the most significant first.
 fn big_endian(bytes: &[u8]) -> u32
@@ -35,7 +36,7 @@ fn number(bytes: &[u8], at: usize, width: usize) -> u32
 }
 
 // The key of `width` bytes at `at`: the last four are its low half, those before them the high one; of four bytes it is 0.
-fn key_at(bytes: &[u8], at: usize, width: usize) -> u64
+fn key_at(bytes: &[u8], at: usize, width: usize) -> Key
     requires { ⌜ at + width ≤ length (now bytes) ⌝ }
     requires { ⌜ KeyWidth width ⌝ }
     ensures { λ r. ⌜ r ≡ bigEndian (take width (drop at (now (bytes .entry)))) ⌝ }

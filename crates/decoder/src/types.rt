@@ -1,4 +1,5 @@
 // A command of a sheet, and what decoding finds.
+use model::types::Key;
 // A command with its operands. `keys` and `versions` are document 01's K and V.
 pub enum Command {
     Open {
@@ -9,20 +10,20 @@ pub enum Command {
     },
     Put {
         process: u32,
-        key: u64,
+        key: Key,
         value: u32,
         timestamp: u32,
         draw: u16,
     },
     Get {
         process: u32,
-        key: u64,
+        key: Key,
     },
     Step {
         process: u32,
     },
     Look {
-        key: u64,
+        key: Key,
         back: u32,
     },
     Inspect,

@@ -16,6 +16,7 @@ use lent::start::start_get_in;
 use lent::start::start_put_in;
 use lent::step::step_in;
 use model::bounds::within;
+use model::types::Key;
 use model::types::State;
 use process::types::Sizes;
 use replies::told::tell_inspect;
@@ -96,7 +97,7 @@ pub extern "C" fn tray_start_put(
     nodes: &[u32],
     readings: &[u32],
     station: u32,
-    tray: u64,
+    tray: Key,
     value: u32,
     stamp: u32,
     draw: u16,
@@ -116,7 +117,7 @@ pub extern "C" fn tray_start_get(
     nodes: &[u32],
     readings: &[u32],
     station: u32,
-    tray: u64,
+    tray: Key,
     tick: &mut u32,
 ) -> u32
     ensures { λ r. ⌜ trayStarted (reply r (now (tick .exit) ∷ [])) (now (state .exit))
@@ -150,7 +151,7 @@ pub extern "C" fn tray_look(
     state: &[u32],
     nodes: &[u32],
     readings: &[u32],
-    tray: u64,
+    tray: Key,
     back: u32,
     answer: &mut [u32; 2],
 ) -> u32

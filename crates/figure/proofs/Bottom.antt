@@ -1,4 +1,4 @@
--- At the bottom level a put that is turned alone does what the figure's tryInsert does, up to its release.
+-- At the bottom level a put that is ran alone does what the figure's tryInsert does, up to its release.
 use Prim.Native.Nat.{ℕ, _+_, _≤_, _<_}
 use mathlib.Core.Bool.{Bool, true, false, not}
 use mathlib.Core.List.{List}
@@ -11,7 +11,7 @@ use lib.ListN.{length, set}
 use Rattle.model.specs.Choice.{if_then_else_}
 use Rattle.model.specs.Layout.{Memory, nodeWords, topLevel, capacity, newest, next, lock, timestamp}
 use Rattle.model.specs.Map.{Map}
-use Rattle.model.specs.Phases.{moved, usedNode, usedVersion, maxNodes, maxVersions, ahead, walked, descend, walkBy, checkBy, committed, addVersion, updateNode, updateAt, updateOf, addNode, makeOf, phaseOf, turnOf}
+use Rattle.model.specs.Phases.{moved, usedNode, usedVersion, maxNodes, maxVersions, ahead, walked, descend, walkBy, checkBy, committed, addVersion, updateNode, updateAt, updateOf, addNode, makeOf, phaseOf, transitionOf}
 use Rattle.model.specs.Calls.{processAfter}
 use Rattle.model.specs.Roles.{classOf}
 use Rattle.model.proofs.Tests.{if-yes, if-no, if-by, by-test, not-not}
@@ -22,9 +22,9 @@ use Rattle.figure.specs.Types.{Put, Phase, Walk, Seek, Check, Update, Ma
 use Rattle.figure.specs.Figure.{keyOf, Pair, Inserted, createAndLink, update, Locked, release, acquire, alone, tryInsert}
 use Rattle.figure.proofs.Search.{key-same, Finds}
 use Rattle.figure.proofs.Runs.{at-place, Run, run-one, run-on}
-use Rattle.figure.proofs.Walking.{Asked, put≢idle, pose, before, ahead-equal, ahead-past, ahead-stop, walk-turn}
+use Rattle.figure.proofs.Walking.{Asked, put≢idle, pose, before, ahead-equal, ahead-past, ahead-stop, walk-transition}
 use Rattle.figure.proofs.Writing.{make-is}
-use Rattle.figure.proofs.Locking.{Ready, finds-ready, work-turn, held-ready, to-check, check-turn, find-lock}
+use Rattle.figure.proofs.Locking.{Ready, finds-ready, work-transition, held-ready, to-check, check-transition, find-lock}
 
 -- the new node, 0 for none
 abbrev pub made-of : Option ℕ → ℕ
@@ -97,7 +97,7 @@ module _ {m : Memory} {g : Ghost} {b : Map} (N : Nodes m g) (B : Book m b) {call
       let c = before call Walk 0 q preds .cursor in
       let down : (found : ℕ) → moved m (walked (call .kind) call c tick found) ≡ moved m (Note (here Seek .cursor)) =
       λ found. ap (λ kind. moved m (walked kind call c tick found)) (P .kind-is) in
-      run-one (walk-turn N P put≢idle i tick 0 q preds (f .spot)
+      run-one (walk-transition N P put≢idle i tick 0 q preds (f .spot)
       ∙ ahead-stop m k (P .key-high) 0 q (R .linked) (λ x. moved m (walkBy call c tick x) ≡ moved m (Note (here Seek .cursor)))
       (R .stop)
       (down (next (m .nodes) 0 q)) (down 0)) tt
@@ -110,8 +110,8 @@ module _ {m : Memory} {g : Ghost} {b : Map} (N : Nodes m g) (B : Book m b) {call
   R₁ = held-ready P i 0 None 0 tt R preds₀
 
   second-look : (tick : ℕ) (x : Ahead) → ahead m₁ 0 q k ≡ x
-      → turnOf (i + 1) tick (here Check) m₁ ≡ checkBy (here Check .cursor) m₁ x
-  second-look = check-turn P i 0 None 0 tt R preds₀
+      → transitionOf (i + 1) tick (here Check) m₁ ≡ checkBy (here Check .cursor) m₁ x
+  second-look = check-transition P i 0 None 0 tt R preds₀
 
   -- ---- the figure's outcome
 
@@ -173,15 +173,15 @@ module _ {m : Memory} {g : Ghost} {b : Map} (N : Nodes m g) (B : Book m b) {call
             (omega arith);
       }))
 
-  update-turn : (tick : ℕ) → y ≢ 0
-      → turnOf (i + 1) tick (here Update) m₁ ≡ moved (u .memory) (committed (here Update .cursor) (made-of (u .node)) (u .answer))
+  update-transition : (tick : ℕ) → y ≢ 0
+      → transitionOf (i + 1) tick (here Update) m₁ ≡ moved (u .memory) (committed (here Update .cursor) (made-of (u .node)) (u .answer))
   unfolding phaseOf updateOf updateAt
-  update-turn tick ne =
+  update-transition tick ne =
       let used-y : y ≤ m .counts .nodes = R₁ .linked ne in
       let p = place-in m g b N B y (omega arith) used-y in
       let x = newest (m₁ .nodes) y in
       let e : x ≡ newest (m .nodes) y = word-field (m .nodes) q y 10 1 (i + 1) (omega arith) (omega arith) (omega arith) in
-      work-turn P i 0 None 0 tt m₁ Update 0 q preds₀ refl (omega arith) (R .used) tick
+      work-transition P i 0 None 0 tt m₁ Update 0 q preds₀ refl (omega arith) (R .used) tick
       ∙ if-no (not (usedNode m₁ y)) _ _ (not-not (usedNode m₁ y)
       (within-T {low = 1} {high = m .counts .nodes} {n = y} (omega arith) used-y))
       ∙ if-no (not (usedVersion m₁ x)) _ _ (not-not (usedVersion m₁ x)
@@ -205,11 +205,11 @@ module _ {m : Memory} {g : Ghost} {b : Map} (N : Nodes m g) (B : Book m b) {call
   create-is = ap (c′ (leb (maxNodes m₁) (m .counts .nodes)) (leb (maxVersions m₁) (m .counts .versions)))
       (make-is call (here Make .cursor) m₁ (R .used))
 
-  make-turn : (tick : ℕ)
-      → turnOf (i + 1) tick (here Make) m₁ ≡ moved (c .memory) (committed (here Make .cursor) (made-of (c .node)) (c .answer))
+  make-transition : (tick : ℕ)
+      → transitionOf (i + 1) tick (here Make) m₁ ≡ moved (c .memory) (committed (here Make .cursor) (made-of (c .node)) (c .answer))
   unfolding phaseOf makeOf
-  make-turn tick =
-      work-turn P i 0 None 0 tt m₁ Make 0 q preds₀ refl (omega arith) (R .used) tick
+  make-transition tick =
+      work-transition P i 0 None 0 tt m₁ Make 0 q preds₀ refl (omega arith) (R .used) tick
       ∙ by (leb (maxNodes m₁) (m .counts .nodes)) (leb (maxVersions m₁) (m .counts .versions)) (ltb topLevel (call .top)) low
       ∙ ap (λ (o : Inserted). moved (o .memory) (committed (here Make .cursor) (made-of (o .node)) (o .answer))) (sym create-is)
     where
@@ -260,7 +260,7 @@ module _ {m : Memory} {g : Ghost} {b : Map} (N : Nodes m g) (B : Book m b) {call
     by-update tick t = (
       run-on (run-on (to-here tick free) (run-one
           (second-look (tick + 3) (Equal y) (ahead-equal m₁ k (P .key-high) 0 q (R₁ .linked) t)) tt))
-          (run-one (update-turn (tick + 4) (key-same m₁ k (P .key-high) y t .0)) tt),
+          (run-one (update-transition (tick + 4) (key-same m₁ k (P .key-high) y t .0)) tt),
       inl update-settles,
     )
 
@@ -269,7 +269,7 @@ module _ {m : Memory} {g : Ghost} {b : Map} (N : Nodes m g) (B : Book m b) {call
     by-make tick t = (
       run-on (run-on (to-here tick free) (run-one
           (second-look (tick + 3) Past (ahead-past m₁ k (P .key-high) 0 q (R₁ .linked) (R₁ .stop) t)) tt))
-          (run-one (make-turn (tick + 4)) tt),
+          (run-one (make-transition (tick + 4)) tt),
       make-sorts,
     )
 

@@ -10,7 +10,7 @@ use lib.ListN.{length, set, length-set}
 use lib.Seq.{getD-set-same, set-set}
 use Rattle.model.specs.Layout.{Memory, limits}
 use Rattle.model.specs.State.{idleProcess, noProcess, withEvent, lawfulKey}
-use Rattle.model.specs.Phases.{moved, turnOf}
+use Rattle.model.specs.Phases.{moved, transitionOf}
 use Rattle.model.specs.Calls.{begun, startPermit, startBy, Store, Stepped, stepOf}
 use Rattle.model.specs.History.{Action, act, performAll, begin}
 use Rattle.model.specs.ByValue.{withState, byValue}
@@ -20,18 +20,18 @@ use Rattle.model.proofs.Seen.{Seen, seen}
 use Rattle.linearizability.proofs.Linearized.{act-live, performed-live, fresh-live}
 use Rattle.figure.specs.Types.{Kind, Answer, Call, Version, End, Permit, Granted, Denied, Refusal, Starting, StartResult, Stepping}
 use Rattle.figure.specs.Figure.{MAX}
-use Rattle.figure.specs.Alone.{Turned, turned, moves, Reached, rested}
+use Rattle.figure.specs.Alone.{Ran, ran, moves, Reached, rested}
 use Rattle.figure.proofs.Runs.{Place, at-place, stepped, Run, Ended, run-call}
 use Rattle.figure.proofs.Lifted.{later, place-in, step-ends, placed, Turns, lift}
 
 -- one step more
-pub turned-more : (w : Store) (i n : ℕ) → let before = turned w i n in let o = stepOf (before .store) i in
-    turned w i (suc n) ≡ record { outcomes = before .outcomes ++ (o .outcome ∷ []); store = o .store }
-unfolding turned
-turned-more w i zero = refl
-turned-more w i (suc n) =
-    ap (λ (r : Turned). record { outcomes = stepOf w i .outcome ∷ r .outcomes; store = r .store })
-    (turned-more (stepOf w i .store) i n)
+pub ran-more : (w : Store) (i n : ℕ) → let before = ran w i n in let o = stepOf (before .store) i in
+    ran w i (suc n) ≡ record { outcomes = before .outcomes ++ (o .outcome ∷ []); store = o .store }
+unfolding ran
+ran-more w i zero = refl
+ran-more w i (suc n) =
+    ap (λ (r : Ran). record { outcomes = stepOf w i .outcome ∷ r .outcomes; store = r .store })
+    (ran-more (stepOf w i .store) i n)
 
 -- ---- an accepted start
 
@@ -71,7 +71,7 @@ module _ (w : Store) (i : ℕ) (call : Call) where
   start = w .state .events + 1
 
   -- what a call that ends says and leaves
-  abbrev Says : (moved : ℕ) → Kind → (begun : ℕ) → Answer → Version → (effect finish : ℕ) → Store → Turned
+  abbrev Says : (moved : ℕ) → Kind → (begun : ℕ) → Answer → Version → (effect finish : ℕ) → Store → Ran
   Says moved kind begun a v effect finish left = record {
     outcomes = moves (start + 1) moved ++ (Stepping.Finished (record {
       kind = kind;
@@ -85,7 +85,7 @@ module _ (w : Store) (i : ℕ) (call : Call) where
     store = left;
   }
 
-  abbrev pub Finishes : (n : ℕ) → Memory → Answer → Version → (effect : ℕ) → Turned
+  abbrev pub Finishes : (n : ℕ) → Memory → Answer → Version → (effect : ℕ) → Ran
   Finishes n m a v e = Says (n - 1) (call .kind) start a v e (start + n) (rested w i (n + 1) m a)
 
   module _ {K W : ℕ} {h : Seen} (l : Live K W w₁ h) (below : i < w .state .processes) (start-is : call .start ≡ start) where
@@ -97,7 +97,7 @@ module _ (w : Store) (i : ℕ) (call : Call) where
 
     module _ (m : Memory) (a : Answer) (v : Version) (e before : ℕ) (y : Place)
         (run : Run i (start + 1) before (at-place (begun call) (memory w)) y)
-        (ends : turnOf (i + 1) (start + suc before) (y .process) (y .memory) ≡ moved m (End a v e))
+        (ends : transitionOf (i + 1) (start + suc before) (y .process) (y .memory) ≡ moved m (End a v e))
         (time : start + suc before ≤ w .state .limit) where
       abbrev w₂ : Store
       w₂ = later w₁ i before y
@@ -128,10 +128,10 @@ module _ (w : Store) (i : ℕ) (call : Call) where
           sum x z = omega arith
 
       -- all its steps
-      finishes-in : turned w₁ i (suc before) ≡ Finishes (suc before) m a v e
+      finishes-in : ran w₁ i (suc before) ≡ Finishes (suc before) m a v e
       finishes-in =
-          turned-more w₁ i before
-          ∙ ap (λ (r : Turned). record {
+          ran-more w₁ i before
+          ∙ ap (λ (r : Ran). record {
             outcomes = r .outcomes ++ (stepOf (r .store) i .outcome ∷ []);
             store = stepOf (r .store) i .store;
           }) (turns .turns)
@@ -148,10 +148,10 @@ module _ (w : Store) (i : ℕ) (call : Call) where
 
     pub finishes : (n : ℕ) (m : Memory) (a : Answer) (v : Version) (e : ℕ)
         → Ended i start n (at-place (begun call) (memory w)) m a v e
-        → start + n ≤ w .state .limit → turned w₁ i n ≡ Finishes n m a v e
+        → start + n ≤ w .state .limit → ran w₁ i n ≡ Finishes n m a v e
     finishes n m a v e E time =
         let q = E .steps-is in
-        subst (λ k. turned w₁ i k ≡ Finishes k m a v e) q
+        subst (λ k. ran w₁ i k ≡ Finishes k m a v e) q
         (finishes-in m a v e (E .before) (E .last) (E .run) (rw q (E .ends)) (omega (arith, q)))
 
 -- ---- the stores of demand 3

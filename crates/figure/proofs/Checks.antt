@@ -62,12 +62,12 @@ unfolding Layout.capacity Layout.joined Layout.word Layout.withWord Layout.withN
     Phases.ahead Phases.walked Phases.descend Phases.walkBy Phases.walkOf Phases.readOf Phases.seekBy Phases.seekOf
     Phases.lockOf Phases.checkBy Phases.checkOf Phases.addVersion Phases.updateNode Phases.updateAt Phases.updateOf
     Phases.addNode Phases.makeOf Phases.addLink Phases.linkOf Phases.rise Phases.released Phases.freed
-    Phases.releaseOf Phases.lawfulAt Phases.lawfulProcess Phases.phaseOf Phases.turnOf
+    Phases.releaseOf Phases.lawfulAt Phases.lawfulProcess Phases.phaseOf Phases.transitionOf
     Calls.openDue Calls.openBy openOf trailingZeros topOf Calls.startPermit Calls.startBy Calls.callFor Calls.startOf
     Calls.stepPermit Calls.processAfter Calls.outcomeOf Calls.counted Calls.tallyAfter Calls.stepBy Calls.stepOf
     Figure.keyOf Figure.refNode Figure.find Figure.findAll Figure.get Figure.link Figure.create Figure.createAndLink Figure.update
     Figure.findLock Figure.insert Figure.tryInsert Figure.insertAbove Figure.insertAll Figure.putH put
-    Steps.hops Steps.hopsDown Steps.searchSteps Steps.stepsAfter Steps.stepsOf Alone.turned figureSteps OneByOne.storeDoes OneByOne.told
+    Steps.hops Steps.hopsDown Steps.searchSteps Steps.stepsAfter Steps.stepsOf Alone.ran figureSteps OneByOne.storeDoes OneByOne.told
     storeAll storeLeft
 by-store c = record {
   replies = storeAll bound (opened (c .K) (c .W)) (c .calls);

@@ -13,7 +13,7 @@ use lib.ListN.{getD}
 use Rattle.model.specs.Choice.{if_then_else_}
 use Rattle.model.specs.Layout.{Memory, topLevel, next, lock, key}
 use Rattle.model.specs.Numbers.{noVersion}
-use Rattle.model.specs.Phases.{moved, at, ended, usedNode, ahead, checkBy, addLink, linkOf, rise, released, freed, releaseOf, noEffect, lawfulAt, phaseOf, turnOf}
+use Rattle.model.specs.Phases.{moved, at, ended, usedNode, ahead, checkBy, addLink, linkOf, rise, released, freed, releaseOf, noEffect, lawfulAt, phaseOf, transitionOf}
 use Rattle.model.specs.Calls.{processAfter}
 use Rattle.model.specs.Roles.{isNew, fromPut}
 use Rattle.model.proofs.Tests.{if-yes, if-no, by-test, ne→neqb}
@@ -24,9 +24,9 @@ use Rattle.figure.specs.Types.{Put, Phase, Seek, Lock, Check, Update, Ma
 use Rattle.figure.specs.Figure.{Pair, Inserted, link, Locked, release, acquire, alone, findLock, insert, insertAbove}
 use Rattle.figure.proofs.Search.{Finds}
 use Rattle.figure.proofs.Runs.{Place, at-place, Run, run-one, run-on, run-same}
-use Rattle.figure.proofs.Walking.{Asked, pose, turn-is, ahead-stop}
+use Rattle.figure.proofs.Walking.{Asked, pose, transition-is, ahead-stop}
 use Rattle.figure.proofs.Writing.{link-is}
-use Rattle.figure.proofs.Locking.{key-kept, Ready, finds-ready, work-turn, held-ready, seek-on, lock-waits, to-check, check-turn, find-lock}
+use Rattle.figure.proofs.Locking.{key-kept, Ready, finds-ready, work-transition, held-ready, seek-on, lock-waits, to-check, check-transition, find-lock}
 use Rattle.figure.proofs.Rising.{Risen, linked-risen}
 
 or-right : (a c : Bool) → T c → T (a || c)
@@ -45,11 +45,11 @@ module _ {call : Call} (P : Asked Put call) (i : ℕ) (preds : List ℕ) (made e
   abbrev pub releases : (l q : ℕ) → Process
   releases l q = pose call Release l q preds made New effect
 
-  pub release-turn : (m : Memory) (l q tick : ℕ) → l ≤ 5 → q ≤ m .counts .nodes
-      → turnOf (i + 1) tick (releases l q) m
+  pub release-transition : (m : Memory) (l q tick : ℕ) → l ≤ 5 → q ≤ m .counts .nodes
+      → transitionOf (i + 1) tick (releases l q) m
       ≡ freed (releases l q .cursor) m (rise call (releases l q .cursor) preds m (ended call New noVersion effect))
   unfolding phaseOf releaseOf released lawfulAt
-  release-turn m l q tick l5 used = turn-is (i + 1) tick (releases l q) m l5 used (rw (P .kind-is) tt)
+  release-transition m l q tick l5 used = transition-is (i + 1) tick (releases l q) m l5 used (rw (P .kind-is) tt)
 
 module _ {m : Memory} {g : Ghost} (N : Nodes m g) {call : Call} (P : Asked Put call) (i start effect : ℕ) (x : Place)
     (preds : List ℕ) where
@@ -122,7 +122,7 @@ module _ {m : Memory} {g : Ghost} (N : Nodes m g) {call : Call} (P : Asked Put c
         ∙ if-no (leb (call .top) l) _ _ (beneath (call .top) l higher)
         ∙ if-no (ltb (h .counts .nodes) z) _ _ (above (h .counts .nodes) z (omega (arith, e, Q-M .used)))
         ∙ ap (λ j. Go (at c Seek j (getD preds j 0))) (add-one l) ∙ ap (λ y. Go (at c Seek L y)) known in
-        run-one (release-turn P i preds made effect h l q tick (omega arith) (C .used) ∙ ap (λ v. freed c h v) up) tt
+        run-one (release-transition P i preds made effect h l q tick (omega arith) (C .used) ∙ ap (λ v. freed c h v) up) tt
 
     -- seek
     pub seeks : (tick : ℕ)
@@ -132,7 +132,7 @@ module _ {m : Memory} {g : Ghost} (N : Nodes m g) {call : Call} (P : Asked Put c
 
     -- a lock that is held
     pub waits : (tick : ℕ) → lock (m .nodes) L p ≢ 0
-        → turnOf (i + 1) tick (pose call Lock L p preds made New effect) M ≡ moved M Wait
+        → transitionOf (i + 1) tick (pose call Lock L p preds made New effect) M ≡ moved M Wait
     waits tick taken = lock-waits P i made New effect lawful Q-M preds tick
         (λ e. taken (sym (R .locks L p (omega arith) (Q .used)) ∙ e))
 
@@ -150,7 +150,7 @@ module _ {m : Memory} {g : Ghost} (N : Nodes m g) {call : Call} (P : Asked Put c
         → moved M₁ (Go (at (S Check .cursor) (if eqb L 0 then bottom else Link) L p)) ≡ moved M₁ (Go (S Link .cursor)) =
         λ bottom. ap (λ ph. moved M₁ (Go (at (S Check .cursor) ph L p)))
         (if-no (eqb L 0) bottom Link (ne→neqb L 0 (omega arith))) in
-        run-one (check-turn P i made New effect lawful Q-M preds tick (ahead M₁ L p k) refl
+        run-one (check-transition P i made New effect lawful Q-M preds tick (ahead M₁ L p k) refl
         ∙ ahead-stop M₁ k (P .key-high) L p (H .linked) goal (H .stop) (to-link Update) (to-link Make)) tt
 
     abbrev held′ : Memory
@@ -159,7 +159,7 @@ module _ {m : Memory} {g : Ghost} (N : Nodes m g) {call : Call} (P : Asked Put c
     -- link
     links : (tick : ℕ) → Run i tick 1 (at-place (S Link) M₁) (at-place (S Release) held′)
     unfolding phaseOf linkOf processAfter
-    links tick = run-one (work-turn P i made New effect lawful M₁ Link L p preds refl (omega arith) (Q-M .used) tick
+    links tick = run-one (work-transition P i made New effect lawful M₁ Link L p preds refl (omega arith) (Q-M .used) tick
         ∙ if-yes (usedNode M₁ made) _ _ (within-T {low = 1} {high = M .counts .nodes} {n = made} (omega arith)
         (omega (arith, R .nodes-is)))) tt
 

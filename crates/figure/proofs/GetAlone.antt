@@ -1,4 +1,4 @@
--- From every store that a list of demand 3 leaves, a get that is turned alone does what the figure's get does.
+-- From every store that a list of demand 3 leaves, a get that is ran alone does what the figure's get does.
 use Prim.Native.Nat.{_+_}
 use mathlib.Core.Path.{refl, subst}
 use native.Mathlib.Omega.{arith}

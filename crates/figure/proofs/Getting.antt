@@ -1,4 +1,4 @@
--- A get that is turned alone ends with what the figure's get answers, and writes nothing.
+-- A get that is ran alone ends with what the figure's get answers, and writes nothing.
 use Prim.Native.Nat.{ℕ, _+_, _≤_}
 use mathlib.Core.Bool.{not}
 use mathlib.Core.Logic.{_≢_}
@@ -9,7 +9,7 @@ use lib.ListN.{set, replicate}
 use Rattle.model.specs.Layout.{Memory, newest, next, versionAt}
 use Rattle.model.specs.Map.{Map, Reply}
 use Rattle.model.specs.Numbers.{noVersion}
-use Rattle.model.specs.Phases.{moved, usedVersion, ahead, walked, descend, walkBy, readOf, lawfulAt, phaseOf, turnOf}
+use Rattle.model.specs.Phases.{moved, usedVersion, ahead, walked, descend, walkBy, readOf, lawfulAt, phaseOf, transitionOf}
 use Rattle.model.specs.Calls.{begun, processAfter}
 use Rattle.model.proofs.Tests.{if-yes, if-no, by-test, ne→neqb}
 use Rattle.linearizability.proofs.Invariant.{Ghost, Nodes, Book}
@@ -19,7 +19,7 @@ use Rattle.figure.specs.Figure.{HMAX, head, keyOf, Pair, findAll, get}
 use Rattle.figure.specs.Steps.{hopsDown, searchSteps, stepsAfter, stepsOf}
 use Rattle.figure.proofs.Search.{key-same, Finds, at-head, all-finds, link-used}
 use Rattle.figure.proofs.Runs.{at-place, Run, run-one, run-on, Ended}
-use Rattle.figure.proofs.Walking.{Asked, get≢idle, ahead-equal, ahead-past, before, turn-is, walk-turn, Walked, walk-down}
+use Rattle.figure.proofs.Walking.{Asked, get≢idle, ahead-equal, ahead-past, before, transition-is, walk-transition, Walked, walk-down}
 
 module _ {m : Memory} {g : Ghost} {b : Map} (N : Nodes m g) (B : Book m b) {call : Call} (P : Asked Get call)
     (bound : ℕ) (enough : m .counts .nodes ≤ bound) (i start : ℕ) where
@@ -51,15 +51,15 @@ module _ {m : Memory} {g : Ghost} {b : Map} (N : Nodes m g) (B : Book m b) {call
 
   -- the last walk step, where it is known what the link leads to
   bottom : (tick : ℕ) (a : Ahead) → ahead m 0 (r .pred) k ≡ a
-      → turnOf (i + 1) tick here m ≡ moved m (walkBy call (here .cursor) tick a)
-  bottom tick a e = walk-turn N P get≢idle i tick 0 (r .pred) (W .preds′) (f .spot)
+      → transitionOf (i + 1) tick here m ≡ moved m (walkBy call (here .cursor) tick a)
+  bottom tick a e = walk-transition N P get≢idle i tick 0 (r .pred) (W .preds′) (f .spot)
       ∙ ap (λ q. moved m (walkBy call (here .cursor) tick q)) e
 
   used : y ≢ 0 → y ≤ m .counts .nodes
   used = link-used N (P .key-high) (f .spot)
 
   gives-up : (tick : ℕ) → T (leb k (keyOf m y)) → T (not (eqb k (keyOf m y)))
-      → turnOf (i + 1) tick here m ≡ moved m (End None noVersion tick)
+      → transitionOf (i + 1) tick here m ≡ moved m (End None noVersion tick)
   unfolding walkBy descend walked
   gives-up tick t u =
       bottom tick Past (ahead-past m k (P .key-high) 0 (r .pred) used t u)
@@ -85,12 +85,12 @@ module _ {m : Memory} {g : Ghost} {b : Map} (N : Nodes m g) (B : Book m b) {call
       ∙ ap (moved m) (if-no (eqb y 0) _ _ (ne→neqb y 0 ne))) tt
 
   reads : (tick : ℕ) → y ≢ 0
-      → turnOf (i + 1) tick there m ≡ moved m (End Found (versionAt (m .versions) (newest (m .nodes) y)) tick)
+      → transitionOf (i + 1) tick there m ≡ moved m (End Found (versionAt (m .versions) (newest (m .nodes) y)) tick)
   unfolding phaseOf readOf lawfulAt
   reads tick ne =
       let x = newest (m .nodes) y in
       let p = place-in m g b N B y (omega arith) (used ne) in
-      turn-is (i + 1) tick there m (omega arith) (used ne) (rw (P .kind-is) tt)
+      transition-is (i + 1) tick there m (omega arith) (used ne) (rw (P .kind-is) tt)
       ∙ ap (moved m) (if-yes (usedVersion m x) _ _ (within-T (p .0) (p .1)))
 
   found : T (eqb k (keyOf m y)) → Goal (record { answer = Found; version = versionAt (m .versions) (newest (m .nodes) y) })

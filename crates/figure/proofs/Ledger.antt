@@ -14,7 +14,7 @@ use Rattle.model.specs.Roles.{isPut, isGet}
 use Rattle.model.proofs.Words.{filled}
 use Rattle.linearizability.proofs.Invariant.{Ghost, Nodes, Book, At, PlacedOf, Fits, fits-at}
 use Rattle.linearizability.proofs.Step.{searches, Ending, Does, Good, Result}
-use Rattle.linearizability.proofs.Turn.{turn-good}
+use Rattle.linearizability.proofs.Transition.{transition-good}
 use Rattle.figure.specs.Types.{Kind, Idle, Put, Get, Walk, Answer, Call, Effect, Process, Version, Move, Refuse, Wait, Go, Note, Commit, End}
 use Rattle.figure.proofs.Walking.{Asked}
 use Rattle.figure.proofs.Runs.{Going, Place, at-place, stepped, place-after, Goes, after-call, run-call, Ended}
@@ -117,7 +117,7 @@ kept-goes i tick (suc n) x y b nz busy h go =
     let pr = x .process in
     let v = stepped i tick x .move in
     let G : Good m (h .ghost) i pr tick b v (stepped i tick x .memory) =
-    turn-good m (h .ghost) i pr tick b (h .nodes) (h .book) nz (h .fits) busy in
+    transition-good m (h .ghost) i pr tick b (h .nodes) (h .book) nz (h .fits) busy in
     let same : processAfter tick pr v .call ≡ pr .call = after-call tick pr v (go .0) in
     let z = place-after i tick x in
     let rest = kept-goes i (suc tick) n z y (G .b′) (λ e. omega arith) (λ e. busy (ap (λ (c : Call). c .kind) (sym same) ∙ e))
@@ -174,7 +174,7 @@ module _ {m : Memory} {g : Ghost} {b : Map} (N : Nodes m g) (B : Book m b) {kind
     -- the last step
     good : Good (last .memory) (kept .held .ghost) i (last .process) (start + n) (kept .map) (End a v e) left
     good = subst (λ (r : Moved). Result (last .memory) (kept .held .ghost) i (last .process) (start + n) (kept .map) r) (E .ends)
-        (turn-good (last .memory) (kept .held .ghost) i (last .process) (start + n) (kept .map) (kept .held .nodes)
+        (transition-good (last .memory) (kept .held .ghost) i (last .process) (start + n) (kept .map) (kept .held .nodes)
         (kept .held .book) (λ z. omega (arith, E .steps-is))
         (kept .held .fits) (λ z. has-call (ap (λ (c : Call). c .kind) (sym same) ∙ z)))
 

@@ -13,7 +13,7 @@ use lib.ListN.{length, set}
 use lib.Seq.{getD-set-same, set-getD, set-set}
 use Rattle.model.specs.Layout.{Memory, limits}
 use Rattle.model.specs.State.{noProcess}
-use Rattle.model.specs.Phases.{Moved, moved, lawfulAt, lawfulProcess, turnOf}
+use Rattle.model.specs.Phases.{Moved, moved, lawfulAt, lawfulProcess, transitionOf}
 use Rattle.model.specs.Calls.{Store, Stepped, stepPermit, processAfter, outcomeOf, tallyAfter, stepBy, stepOf}
 use Rattle.model.specs.Roles.{isIdle, roleOf}
 use Rattle.model.proofs.Seen.{Seen, sawStep}
@@ -21,14 +21,14 @@ use Rattle.model.proofs.Tests.{is-true, if-no, eq→eqb}
 use Rattle.linearizability.proofs.Live.{memory, slot, Live, core-lawful}
 use Rattle.linearizability.proofs.Stepped.{step-live}
 use Rattle.figure.specs.Types.{Kind, Idle, Put, Get, Role, Searching, Reading, Writing, Releasing, Answer, Process, Version, Move, Refuse, Wait, Go, Note, Commit, End, Granted, Stepping}
-use Rattle.figure.specs.Alone.{Turned, turned, moves, rested}
+use Rattle.figure.specs.Alone.{Ran, ran, moves, rested}
 use Rattle.figure.proofs.Runs.{Going, Place, at-place, stepped, place-after, Goes}
 
 -- ---- an accepted step
 
 -- a process without a call makes no move
-idle-refuses : (holder tick : ℕ) (pr : Process) (m : Memory) → pr .call .kind ≡ Idle → turnOf holder tick pr m ≡ moved m Refuse
-unfolding turnOf lawfulProcess lawfulAt
+idle-refuses : (holder tick : ℕ) (pr : Process) (m : Memory) → pr .call .kind ≡ Idle → transitionOf holder tick pr m ≡ moved m Refuse
+unfolding transitionOf lawfulProcess lawfulAt
 idle-refuses holder tick pr m e = if-no (lawfulProcess pr m) _ _ (unlawful e)
   where
     and-no : (a b : Bool) → T (not b) → T (not (a && b))
@@ -139,8 +139,8 @@ module _ {K W : ℕ} {w : Store} {h : Seen} (l : Live K W w h) (i : ℕ) (below 
 -- ---- many steps
 
 -- a step, then n more
-abbrev pub then : (i n : ℕ) → Stepped → Turned
-then i n o = record { outcomes = o .outcome ∷ turned (o .store) i n .outcomes; store = turned (o .store) i n .store }
+abbrev pub then : (i n : ℕ) → Stepped → Ran
+then i n o = record { outcomes = o .outcome ∷ ran (o .store) i n .outcomes; store = ran (o .store) i n .store }
 
 later-on : (w : Store) (i a b : ℕ) (x y : Place) → later (later w i a x) i b y ≡ later w i (a + b) y
 later-on w i a b x y = rw (set-set (w .state .process) i (x .process) (y .process), add-assoc (w .state .events) a b)
@@ -156,13 +156,13 @@ placed {w = w} l i below n y = ap (λ (p : Process). at-place p (y .memory))
 
 -- the store after n steps, and that it is one of demand 3
 pub record Turns (K W : ℕ) (w : Store) (i n : ℕ) (y : Place) : Type 0 where
-  pub turns : turned w i n ≡ record { outcomes = moves (w .state .events + 1) n; store = later w i n y }
+  pub turns : ran w i n ≡ record { outcomes = moves (w .state .events + 1) n; store = later w i n y }
   pub history : Seen
   pub live : Live K W (later w i n y) history
 
 pub lift : {K W : ℕ} (i n : ℕ) {w : Store} {h : Seen} → Live K W w h → i < w .state .processes
     → w .state .events + n ≤ w .state .limit → (y : Place) → Goes i (w .state .events + 1) n (place-in w i) y → Turns K W w i n y
-unfolding turned moves
+unfolding ran moves
 lift {K} {W} i zero {w} {h} l below time y go = subst (λ z. Turns K W w i 0 z) go (record {
   turns = ap (λ (z : Store). record { outcomes = []; store = z }) (sym (later-none w i));
   history = h;
@@ -182,7 +182,7 @@ lift {K} {W} i (suc n) {w} {h} l below time y go =
     let e : later w₁ i n y ≡ later w i (suc n) y = later-on w i 1 n x y ∙ ap (λ k. later w i k y) (one-more n) in
     record {
       turns = ap (then i n) s
-          ∙ ap (λ (r : Turned). record { outcomes = Stepping.Moved t ∷ r .outcomes; store = r .store }) (rest .turns)
+          ∙ ap (λ (r : Ran). record { outcomes = Stepping.Moved t ∷ r .outcomes; store = r .store }) (rest .turns)
           ∙ ap (λ (z : Store). record { outcomes = Stepping.Moved t ∷ moves (t + 1) n; store = z }) e;
       history = rest .history;
       live = subst (λ z. Live K W z (rest .history)) e (rest .live);

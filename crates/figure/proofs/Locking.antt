@@ -7,7 +7,7 @@ use mathlib.Core.Path.{_≡_, refl, sym, ap, _∙_, subst}
 use native.Mathlib.Omega.{arith}
 use lib.Dec.{T, eqb, leb}
 use Rattle.model.specs.Layout.{Memory, key, next, lock, withWord}
-use Rattle.model.specs.Phases.{moved, at, ahead, seekBy, seekOf, lockOf, checkBy, checkOf, noEffect, lawfulAt, phaseOf, turnOf}
+use Rattle.model.specs.Phases.{moved, at, ahead, seekBy, seekOf, lockOf, checkBy, checkOf, noEffect, lawfulAt, phaseOf, transitionOf}
 use Rattle.model.specs.Calls.{processAfter}
 use Rattle.model.specs.Roles.{roleOf, fromPut}
 use Rattle.model.proofs.Tests.{if-yes, if-no, by-eq, eq→eqb, ne→neqb}
@@ -17,7 +17,7 @@ use Rattle.figure.specs.Types.{Put, Phase, Seek, Lock, Check, Writing, A
 use Rattle.figure.specs.Figure.{MAX, tail, keyOf, Pair, acquire, alone, findLock}
 use Rattle.figure.proofs.Search.{Finds, find-stop, link-used, level5}
 use Rattle.figure.proofs.Runs.{at-place, Run, run-one, run-on}
-use Rattle.figure.proofs.Walking.{Asked, pose, turn-is, ahead-stop}
+use Rattle.figure.proofs.Walking.{Asked, pose, transition-is, ahead-stop}
 
 -- a key is what it was where the node's key word is
 pub key-kept : (m m′ : Memory) (y : ℕ) → (y ≢ tail → key (m′ .nodes) y ≡ key (m .nodes) y) → keyOf m′ y ≡ keyOf m y
@@ -52,9 +52,9 @@ module _ {call : Call} (P : Asked Put call) (i made : ℕ) (a : Answer) (e : ℕ
   unfolding lawfulAt
   lawful-at ph w = rw w lawful
 
-  pub work-turn : (m : Memory) (ph : Phase) (l q : ℕ) (preds : List ℕ) → Works ph → l ≤ 5 → q ≤ m .counts .nodes → (tick : ℕ)
-      → turnOf (i + 1) tick (pose call ph l q preds made a e) m ≡ phaseOf ph (i + 1) tick (pose call ph l q preds made a e) m
-  work-turn m ph l q preds w l5 used tick = turn-is (i + 1) tick (pose call ph l q preds made a e) m l5 used
+  pub work-transition : (m : Memory) (ph : Phase) (l q : ℕ) (preds : List ℕ) → Works ph → l ≤ 5 → q ≤ m .counts .nodes → (tick : ℕ)
+      → transitionOf (i + 1) tick (pose call ph l q preds made a e) m ≡ phaseOf ph (i + 1) tick (pose call ph l q preds made a e) m
+  work-transition m ph l q preds w l5 used tick = transition-is (i + 1) tick (pose call ph l q preds made a e) m l5 used
       (subst (λ kind. T (lawfulAt kind (roleOf ph) (record { answer = a; tick = e }))) (sym (P .kind-is)) (lawful-at ph w))
 
   module _ {m : Memory} {l q : ℕ} (R : Ready m (call .key) l q) (preds : List ℕ) where
@@ -87,32 +87,32 @@ module _ {call : Call} (P : Asked Put call) (i made : ℕ) (a : Answer) (e : ℕ
 
     pub seek-on : (tick : ℕ) → Run i tick 1 (at-place (stands Seek) m) (at-place (stands Lock) m)
     unfolding phaseOf seekOf seekBy processAfter
-    seek-on tick = run-one (work-turn m Seek l q preds refl (R .level) (R .used) tick
+    seek-on tick = run-one (work-transition m Seek l q preds refl (R .level) (R .used) tick
         ∙ ahead-stop m k (P .key-high) l q (R .linked)
         (λ x. moved m (seekBy (stands Seek .cursor) x) ≡ moved m (Go (stands Lock .cursor))) (R .stop) refl refl) tt
 
-    lock-turn : (tick : ℕ) → turnOf (i + 1) tick (stands Lock) m ≡ lockOf (stands Lock .cursor) (i + 1) m
+    lock-transition : (tick : ℕ) → transitionOf (i + 1) tick (stands Lock) m ≡ lockOf (stands Lock .cursor) (i + 1) m
     unfolding phaseOf
-    lock-turn = work-turn m Lock l q preds refl (R .level) (R .used)
+    lock-transition = work-transition m Lock l q preds refl (R .level) (R .used)
 
     lock-on : (tick : ℕ) → lock (m .nodes) l q ≡ 0 → Run i tick 1 (at-place (stands Lock) m) (at-place (stands Check) held)
     unfolding lockOf processAfter
-    lock-on tick free = run-one (lock-turn tick
+    lock-on tick free = run-one (lock-transition tick
         ∙ if-yes (eqb (lock (m .nodes) l q) 0) _ _ (eq→eqb (lock (m .nodes) l q) 0 free)) tt
 
     -- a lock that is held
-    pub lock-waits : (tick : ℕ) → lock (m .nodes) l q ≢ 0 → turnOf (i + 1) tick (stands Lock) m ≡ moved m Wait
+    pub lock-waits : (tick : ℕ) → lock (m .nodes) l q ≢ 0 → transitionOf (i + 1) tick (stands Lock) m ≡ moved m Wait
     unfolding lockOf
-    lock-waits tick taken = lock-turn tick ∙ if-no (eqb (lock (m .nodes) l q) 0) _ _ (ne→neqb (lock (m .nodes) l q) 0 taken)
+    lock-waits tick taken = lock-transition tick ∙ if-no (eqb (lock (m .nodes) l q) 0) _ _ (ne→neqb (lock (m .nodes) l q) 0 taken)
 
     pub to-check : (tick : ℕ) → lock (m .nodes) l q ≡ 0 → Run i tick 2 (at-place (stands Seek) m) (at-place (stands Check) held)
     to-check tick free = run-on (seek-on tick) (lock-on (tick + 1) free)
 
     -- the second look, under the lock
-    pub check-turn : (tick : ℕ) (x : Ahead) → ahead held l q k ≡ x
-        → turnOf (i + 1) tick (stands Check) held ≡ checkBy (stands Check .cursor) held x
+    pub check-transition : (tick : ℕ) (x : Ahead) → ahead held l q k ≡ x
+        → transitionOf (i + 1) tick (stands Check) held ≡ checkBy (stands Check .cursor) held x
     unfolding phaseOf checkOf
-    check-turn tick x z = work-turn held Check l q preds refl (R .level) (R .used) tick
+    check-transition tick x z = work-transition held Check l q preds refl (R .level) (R .used) tick
         ∙ ap (λ o. checkBy (stands Check .cursor) held o) z
 
     pub find-lock : (bound : ℕ) → 1 ≤ bound

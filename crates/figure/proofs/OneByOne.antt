@@ -1,4 +1,4 @@
--- Calls that are turned one after another, each to its end, are the published procedures folded over the list.
+-- Calls that are ran one after another, each to its end, are the published procedures folded over the list.
 use Prim.Native.Nat.{ℕ, zero, suc, _+_, _-_, _≤_, _<_}
 use mathlib.Core.Bool.{true}
 use mathlib.Core.List.{List, [], _∷_, _++_}
@@ -25,7 +25,7 @@ use Rattle.linearizability.proofs.Live.{slot, Live, core-lawful, status-is}
 use Rattle.figure.specs.Types.{Idle, Answer, Call, Process, Finish, Opening, Starting, Stepping, Granted}
 use Rattle.figure.specs.Figure.{get, alone, put}
 use Rattle.figure.specs.Steps.{stepsOf}
-use Rattle.figure.specs.Alone.{Turned, turned, moves, Reached, memoryIn, rested, Resting}
+use Rattle.figure.specs.Alone.{Ran, ran, moves, Reached, memoryIn, rested, Resting}
 use Rattle.figure.specs.OneByOne.{Request, putting, getting, processOf, figureReply, figureMemory, figureAll, figureLeft, figureSteps, figureEvents, storeDoes, told, storeAll, storeLeft, Lawful, StoreFolds, StoreImplements}
 use Rattle.figure.proofs.Lifted.{not-le}
 use Rattle.figure.proofs.Called.{Lives, reached-lives}
@@ -52,10 +52,10 @@ reached-on {w} r a =
           ∙ (unfold perform in (ap (λ (z : Store). act byValue z a .store) (r .left)));
     }
 
-reached-turned : (i n : ℕ) {w : Store} → Reached w → Reached (turned w i n .store)
-unfolding turned
-reached-turned i zero r = r
-reached-turned i (suc n) r = reached-turned i n (reached-on r (step i))
+reached-ran : (i n : ℕ) {w : Store} → Reached w → Reached (ran w i n .store)
+unfolding ran
+reached-ran i zero r = r
+reached-ran i (suc n) r = reached-ran i n (reached-on r (step i))
 
 -- ---- a start that nothing speaks against
 
@@ -109,9 +109,9 @@ module _ (w : Store) (reached : Reached w) (rest : Resting w) (bound : ℕ) (eno
       let q = get-alone w reached bound enough i k (w .state .events + 1)
       (starts w lives i k below lawful (resting-idle lives rest i) (omega arith) (Requests.get k) refl) (omega arith) in
       record {
-        reached = reached-turned i n (reached-on reached (start i (Requests.get k)));
-        tells = ap (λ (x : Turned). told (x .outcomes)) q ∙ told-end (w .state .events + 1 + 1) (n - 1) _;
-        left-is = ap (λ (x : Turned). x .store) q;
+        reached = reached-ran i n (reached-on reached (start i (Requests.get k)));
+        tells = ap (λ (x : Ran). told (x .outcomes)) q ∙ told-end (w .state .events + 1 + 1) (n - 1) _;
+        left-is = ap (λ (x : Ran). x .store) q;
       }
 
   called-put : (i k v t draw : ℕ) → Lawful (putting i k v t draw) → i < w .state .processes → Time (putting i k v t draw)
@@ -125,9 +125,9 @@ module _ (w : Store) (reached : Reached w) (rest : Resting w) (bound : ℕ) (eno
       let q = put-alone w reached bound enough i k v t draw (w .state .events + 1) free
       (starts w lives i k below lawful (resting-idle lives rest i) (omega arith) (Requests.put k v t draw) refl) (omega arith) in
       record {
-        reached = reached-turned i n (reached-on reached (start i (Requests.put k v t draw)));
-        tells = ap (λ (x : Turned). told (x .outcomes)) q ∙ told-end (w .state .events + 1 + 1) (n - 1) _;
-        left-is = ap (λ (x : Turned). x .store) q;
+        reached = reached-ran i n (reached-on reached (start i (Requests.put k v t draw)));
+        tells = ap (λ (x : Ran). told (x .outcomes)) q ∙ told-end (w .state .events + 1 + 1) (n - 1) _;
+        left-is = ap (λ (x : Ran). x .store) q;
       }
 
   called : (r : Request) → Lawful r → processOf r < w .state .processes → Time r → Called bound w r

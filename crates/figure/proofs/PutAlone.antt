@@ -1,4 +1,4 @@
--- From every store that a list of demand 3 leaves, a put that is turned alone where its locks are free does what the figure's put
+-- From every store that a list of demand 3 leaves, a put that is ran alone where its locks are free does what the figure's put
 -- does.
 use Prim.Native.Nat.{_+_}
 use mathlib.Core.Path.{refl, subst}

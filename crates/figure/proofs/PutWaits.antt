@@ -18,7 +18,7 @@ use Rattle.linearizability.proofs.Stepped.{step-live}
 use Rattle.figure.specs.Types.{Call, State, Wait, Stepping}
 use Rattle.figure.specs.Figure.{put}
 use Rattle.figure.specs.Steps.{searchSteps}
-use Rattle.figure.specs.Alone.{leftBelow, Turned, turned, memoryIn, waits, waited, Waits, PutWaits}
+use Rattle.figure.specs.Alone.{leftBelow, Ran, ran, memoryIn, waits, waited, Waits, PutWaits}
 use Rattle.figure.proofs.Runs.{Place, at-place, stepped, Waiting}
 use Rattle.figure.proofs.Walking.{put-call, asked-put}
 use Rattle.figure.proofs.Putting.{put-waits}
@@ -40,8 +40,8 @@ waited-on w a b = rw (add-assoc (w .state .events) a b)
 stays : {K W : ℕ} (i n : ℕ) {w : Store} {h : Seen} → Live K W w h → i < w .state .processes
     → w .state .events + n ≤ w .state .limit
     → ((tick : ℕ) → stepped i tick (place-in w i) ≡ moved (memory w) Wait)
-    → turned w i n ≡ record { outcomes = waits (w .state .events + 1) n; store = waited w n }
-unfolding turned waits
+    → ran w i n ≡ record { outcomes = waits (w .state .events + 1) n; store = waited w n }
+unfolding ran waits
 stays i zero {w} l below time still = rw (add-zero (w .state .events))
 stays {K} {W} i (suc n) {w} {h} l below time still =
     let t = w .state .events + 1 in
@@ -50,7 +50,7 @@ stays {K} {W} i (suc n) {w} {h} l below time still =
     let l₁ : Live K W (waited w 1) (sawStep h i (Stepping.Waited t)) =
     subst (λ (o : Stepped). Live K W (o .store) (sawStep h i (o .outcome))) s (step-live l i) in
     ap (then i n) s
-    ∙ ap (λ (r : Turned). record { outcomes = Stepping.Waited t ∷ r .outcomes; store = r .store })
+    ∙ ap (λ (r : Ran). record { outcomes = Stepping.Waited t ∷ r .outcomes; store = r .store })
     (stays i n l₁ below (omega arith) still)
     ∙ ap (λ (z : Store). record { outcomes = Stepping.Waited t ∷ waits (t + 1) n; store = z })
     (waited-on w 1 n ∙ ap (waited w) (one-more n))
@@ -76,11 +76,11 @@ module _ {K W : ℕ} (w : Store) (i : ℕ) (call : Call) {h : Seen}
       let w₂ = later w₁ i n y in
       let T = lift i n l below time y (rw (here w i call l below start-is) (there .run .goes)) in
       record {
-        comes = ap (λ (r : Turned). r .outcomes) (T .turns);
-        leaves = ap (λ (r : Turned). memoryIn (r .store)) (T .turns);
-        stays = λ more time. subst (λ (z : Store). turned z i more
+        comes = ap (λ (r : Ran). r .outcomes) (T .turns);
+        leaves = ap (λ (r : Ran). memoryIn (r .store)) (T .turns);
+        stays = λ more time. subst (λ (z : Store). ran z i more
             ≡ record { outcomes = waits (start + n + 1) more; store = waited z more })
-            (sym (ap (λ (r : Turned). r .store) (T .turns)))
+            (sym (ap (λ (r : Ran). r .store) (T .turns)))
             (stays i more (T .live) below time (λ tick. ap (λ (z : Place). stepped i tick z) (placed l i below n y)
             ∙ there .waits tick));
       }

@@ -1,4 +1,4 @@
--- A put that is turned alone, where the locks that it needs are free, leaves the memory and gives the answer of the figure's putH.
+-- A put that is ran alone, where the locks that it needs are free, leaves the memory and gives the answer of the figure's putH.
 use Prim.Native.Nat.{ℕ, zero, suc, _+_, _*_, _≤_, _<_}
 use mathlib.Core.List.{List}
 use mathlib.Core.Logic.{_≢_, _⊎_, inl, inr}
@@ -11,7 +11,7 @@ use lib.ListN.{getD, set, replicate}
 use lib.Seq.{getD-set-other}
 use Rattle.model.specs.Layout.{Memory, topLevel, lock}
 use Rattle.model.specs.Map.{Map}
-use Rattle.model.specs.Phases.{moved, ownVersion, rise, released, freed, releaseOf, lawfulAt, phaseOf, turnOf}
+use Rattle.model.specs.Phases.{moved, ownVersion, rise, released, freed, releaseOf, lawfulAt, phaseOf, transitionOf}
 use Rattle.model.specs.Calls.{begun}
 use Rattle.model.specs.Roles.{isNew, fromPut}
 use Rattle.model.proofs.Tests.{if-yes, if-no, by-eq}
@@ -23,11 +23,11 @@ use Rattle.figure.specs.Alone.{Free, leftBelow}
 use Rattle.figure.specs.Steps.{hopsDown, searchSteps, stepsAfter, stepsOf}
 use Rattle.figure.proofs.Search.{Finds, at-head, all-finds, all-next}
 use Rattle.figure.proofs.Runs.{at-place, Run, run-on, run-same, Ended, Waiting}
-use Rattle.figure.proofs.Walking.{Asked, put≢idle, pose, turn-is, Walked, walk-down}
+use Rattle.figure.proofs.Walking.{Asked, put≢idle, pose, transition-is, Walked, walk-down}
 use Rattle.figure.proofs.Bottom.{made-of, Plain, new-not-plain, done, closed, try-is, Settles, Makes, walk-on, bottom}
 use Rattle.figure.proofs.Locking.{finds-ready, seek-on, lock-waits}
 use Rattle.figure.proofs.Rising.{Risen, made-risen}
-use Rattle.figure.proofs.Climbing.{above, releases, release-turn, Climbed, climb, rises, seeks, waits}
+use Rattle.figure.proofs.Climbing.{above, releases, release-transition, Climbed, climb, rises, seeks, waits}
 
 module _ {m : Memory} {g : Ghost} {b : Map} (N : Nodes m g) (B : Book m b) {call : Call} (P : Asked Put call)
     (bound : ℕ) (enough : m .counts .nodes < bound) (i start : ℕ) where
@@ -100,12 +100,12 @@ module _ {m : Memory} {g : Ghost} {b : Map} (N : Nodes m g) (B : Book m b) {call
 
   -- ---- a put that made no node: its release is its end
 
-  plain-turn : (m₂ : Memory) (made tick e : ℕ) (a : Answer) → Plain a → path 0 ≤ m₂ .counts .nodes
-      → turnOf (i + 1) tick (pose call Release 0 (path 0) preds made a e) m₂
+  plain-transition : (m₂ : Memory) (made tick e : ℕ) (a : Answer) → Plain a → path 0 ≤ m₂ .counts .nodes
+      → transitionOf (i + 1) tick (pose call Release 0 (path 0) preds made a e) m₂
       ≡ moved (release m₂ (path 0) 0) (End a (ownVersion call) e)
   unfolding phaseOf releaseOf released freed lawfulAt
-  plain-turn m₂ made tick e a p used =
-      turn-is (i + 1) tick (pose call Release 0 (path 0) preds made a e) m₂ (omega arith) used (rw (P .kind-is, p) tt) ∙ rw p refl
+  plain-transition m₂ made tick e a p used =
+      transition-is (i + 1) tick (pose call Release 0 (path 0) preds made a e) m₂ (omega arith) used (rw (P .kind-is, p) tt) ∙ rw p refl
 
   plain-steps : (a : Answer) → Plain a → suc (walked + 5) ≡ stepsOf bound m k a h
   unfolding stepsOf searchSteps stepsAfter
@@ -125,7 +125,7 @@ module _ {m : Memory} {g : Ghost} {b : Map} (N : Nodes m g) (B : Book m b) {call
     steps-is = plain-steps (o .answer) (s .answer);
     last = at-place (pose call Release 0 (path 0) preds (made-of (o .node)) (o .answer) effect) (o .memory);
     run = low free .0;
-    ends = plain-turn (o .memory) (made-of (o .node)) _ effect (o .answer) (s .answer)
+    ends = plain-transition (o .memory) (made-of (o .node)) _ effect (o .answer) (s .answer)
         (omega (arith, s .same, finds-at 0 (omega arith) .spot .used))
         ∙ ap (λ t. moved (release (o .memory) (path 0) 0) (End (o .answer) (ownVersion call) t)) effect-is;
   }
@@ -171,12 +171,12 @@ module _ {m : Memory} {g : Ghost} {b : Map} (N : Nodes m g) (B : Book m b) {call
   all-up M zero le free = made-up (free 0 (omega arith)) M
   all-up M (suc l) le free = climbs l le (free (suc l) (omega arith)) (all-up M l (omega arith) (λ j jl. free j (omega arith)))
 
-  top-turn : (held : Memory) (tick : ℕ) → path h ≤ held .counts .nodes
-      → turnOf (i + 1) tick (releases P i preds (m .counts .nodes + 1) effect h (path h)) held
+  top-transition : (held : Memory) (tick : ℕ) → path h ≤ held .counts .nodes
+      → transitionOf (i + 1) tick (releases P i preds (m .counts .nodes + 1) effect h (path h)) held
       ≡ moved (release held (path h) h) (End New (ownVersion call) effect)
   unfolding rise freed
-  top-turn held tick used =
-      release-turn P i preds (m .counts .nodes + 1) effect held h (path h) tick (P .top-high) used
+  top-transition held tick used =
+      release-transition P i preds (m .counts .nodes + 1) effect held h (path h) tick (P .top-high) used
       ∙ ap (λ v. freed (releases P i preds (m .counts .nodes + 1) effect h (path h) .cursor) held v)
       (if-no (ltb topLevel h) _ _ (above topLevel h (P .top-high)) ∙ if-yes (leb h h) _ _ (le→leb h h (omega arith)))
 
@@ -187,7 +187,7 @@ module _ {m : Memory} {g : Ghost} {b : Map} (N : Nodes m g) (B : Book m b) {call
     steps-is = omega arith;
     last = at-place (releases P i preds (m .counts .nodes + 1) effect h (path h)) (U .held);
     run = U .run;
-    ends = top-turn (U .held) _ (U .used)
+    ends = top-transition (U .held) _ (U .used)
         ∙ ap (λ t. moved (release (U .held) (path h) h) (End New (ownVersion call) t)) effect-is;
   })
 

@@ -4,7 +4,7 @@ use mathlib.Core.Path.{_≡_, refl, sym, ap, _∙_, subst}
 use native.Mathlib.Nat.{add-zero, zero-add}
 use native.Mathlib.Omega.{arith}
 use Rattle.model.specs.Layout.{Memory}
-use Rattle.model.specs.Phases.{Moved, moved, turnOf}
+use Rattle.model.specs.Phases.{Moved, moved, transitionOf}
 use Rattle.model.specs.Calls.{processAfter}
 use Rattle.figure.specs.Types.{Answer, Process, Version, Move, Refuse, Wait, Go, Note, Commit, End}
 
@@ -27,7 +27,7 @@ at-place pr m = record { process = pr; memory = m }
 
 -- where a step leads
 abbrev pub stepped : (i tick : ℕ) → Place → Moved
-stepped i tick a = turnOf (i + 1) tick (a .process) (a .memory)
+stepped i tick a = transitionOf (i + 1) tick (a .process) (a .memory)
 
 abbrev pub place-after : (i tick : ℕ) → Place → Place
 place-after i tick a = at-place (processAfter tick (a .process) (stepped i tick a .move)) (stepped i tick a .memory)
@@ -43,7 +43,7 @@ pub record Run (i tick n : ℕ) (a b : Place) : Type 0 where
 pub run-none : {i tick : ℕ} {a : Place} → Run i tick 0 a a
 run-none = record { goes = refl }
 
-pub run-one : {i tick : ℕ} {pr : Process} {m m′ : Memory} {v : Move} → turnOf (i + 1) tick pr m ≡ moved m′ v → Going v
+pub run-one : {i tick : ℕ} {pr : Process} {m m′ : Memory} {v : Move} → transitionOf (i + 1) tick pr m ≡ moved m′ v → Going v
     → Run i tick 1 (at-place pr m) (at-place (processAfter tick pr v) m′)
 run-one {i} {tick} {pr} {m} {m′} {v} e g = record {
   goes = (
@@ -76,13 +76,13 @@ pub record Ended (i start steps : ℕ) (x : Place) (left : Memory) (a : Answer) 
   pub steps-is : suc before ≡ steps
   pub last : Place
   pub run : Run i (start + 1) before x last
-  pub ends : turnOf (i + 1) (start + steps) (last .process) (last .memory) ≡ moved left (End a v effect)
+  pub ends : transitionOf (i + 1) (start + steps) (last .process) (last .memory) ≡ moved left (End a v effect)
 
 -- so many steps lead to where every step waits
 pub record Waiting (i start steps : ℕ) (x : Place) (left : Memory) : Type 0 where
   pub process : Process
   pub run : Run i (start + 1) steps x (at-place process left)
-  pub waits : (tick : ℕ) → turnOf (i + 1) tick process left ≡ moved left Wait
+  pub waits : (tick : ℕ) → transitionOf (i + 1) tick process left ≡ moved left Wait
 
 -- no step changes the call
 pub after-call : (tick : ℕ) (pr : Process) (v : Move) → Going v → processAfter tick pr v .call ≡ pr .call

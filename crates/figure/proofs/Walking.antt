@@ -1,4 +1,4 @@
--- A walk that is turned alone finds what the figure's find and findAll find: a step for each hop, and one for the end of each
+-- A walk that is ran alone finds what the figure's find and findAll find: a step for each hop, and one for the end of each
 -- level.
 use Prim.Native.Nat.{ℕ, zero, suc, _+_, _-_, _≤_, _<_}
 use mathlib.Core.Bool.{not, _&&_}
@@ -10,7 +10,7 @@ use lib.Dec.{T, eqb, leb, ltb, le→leb, lt→ltb}
 use lib.ListN.{length, getD, set, length-set}
 use lib.Seq.{getD-set-same, getD-set-other}
 use Rattle.model.specs.Layout.{Memory, topLevel, key, next}
-use Rattle.model.specs.Phases.{moved, at, ahead, descend, walkBy, walkOf, lawfulAt, lawfulProcess, phaseOf, turnOf}
+use Rattle.model.specs.Phases.{moved, at, ahead, descend, walkBy, walkOf, lawfulAt, lawfulProcess, phaseOf, transitionOf}
 use Rattle.model.specs.Calls.{topOf, processAfter}
 use Rattle.model.specs.Roles.{roleOf, plays}
 use Rattle.model.proofs.Tests.{if-yes, if-no, by-eq, by-test, →and, eq→eqb, ne→neqb}
@@ -107,11 +107,11 @@ abbrev pub before : Call → Phase → (l p : ℕ) → (preds : List ℕ) → Pr
 before call phase l p preds = pose call phase l p preds 0 None 0
 
 -- the tests of every step pass, and its phase decides
-pub turn-is : (holder tick : ℕ) (pr : Process) (m : Memory) → pr .cursor .level ≤ topLevel → pr .cursor .pred ≤ m .counts .nodes
+pub transition-is : (holder tick : ℕ) (pr : Process) (m : Memory) → pr .cursor .level ≤ topLevel → pr .cursor .pred ≤ m .counts .nodes
     → T (lawfulAt (pr .call .kind) (roleOf (pr .cursor .phase)) (pr .effect))
-    → turnOf holder tick pr m ≡ phaseOf (pr .cursor .phase) holder tick pr m
-unfolding turnOf lawfulProcess
-turn-is holder tick pr m l5 used t =
+    → transitionOf holder tick pr m ≡ phaseOf (pr .cursor .phase) holder tick pr m
+unfolding transitionOf lawfulProcess
+transition-is holder tick pr m l5 used t =
     let low = leb (pr .cursor .level) topLevel in
     let known = leb (pr .cursor .pred) (m .counts .nodes) in
     let lawful = lawfulAt (pr .call .kind) (roleOf (pr .cursor .phase)) (pr .effect) in
@@ -136,12 +136,12 @@ module _ {m : Memory} {g : Ghost} (N : Nodes m g) {kind : Kind} {call : Call} (P
   abbrev pub walks : (l p : ℕ) → List ℕ → Place
   walks l p preds = at-place (before call Walk l p preds) m
 
-  pub walk-turn : (tick l p : ℕ) (preds : List ℕ) → At m g l p k
-      → turnOf (i + 1) tick (before call Walk l p preds) m
+  pub walk-transition : (tick l p : ℕ) (preds : List ℕ) → At m g l p k
+      → transitionOf (i + 1) tick (before call Walk l p preds) m
       ≡ moved m (walkBy call (before call Walk l p preds .cursor) tick (ahead m l p k))
   unfolding phaseOf walkOf
-  walk-turn tick l p preds a =
-      turn-is (i + 1) tick (before call Walk l p preds) m (level5 N (P .key-high) a) (a .used)
+  walk-transition tick l p preds a =
+      transition-is (i + 1) tick (before call Walk l p preds) m (level5 N (P .key-high) a) (a .used)
       (lawful-walk (call .kind) (λ e. busy (sym (P .kind-is) ∙ e)))
 
   walk-hop : (tick l p : ℕ) (preds : List ℕ) → At m g l p k → T (not (leb k (keyOf m (link l p))))
@@ -149,7 +149,7 @@ module _ {m : Memory} {g : Ghost} (N : Nodes m g) {kind : Kind} {call : Call} (P
   unfolding walkBy processAfter
   walk-hop tick l p preds a t =
       let c = before call Walk l p preds .cursor in
-      run-one (walk-turn tick l p preds a
+      run-one (walk-transition tick l p preds a
       ∙ ap (λ q. moved m (walkBy call c tick q)) (ahead-less m k (P .key-high) l p (link-used N (P .key-high) a) t)) tt
 
   -- along a level: a step for each hop of find
@@ -167,7 +167,7 @@ module _ {m : Memory} {g : Ghost} (N : Nodes m g) {kind : Kind} {call : Call} (P
   unfolding walkBy descend processAfter
   walk-end tick l p preds a t =
       let c = before call Walk (suc l) p preds .cursor in
-      run-one (walk-turn tick (suc l) p preds a
+      run-one (walk-transition tick (suc l) p preds a
       ∙ ahead-stop m k (P .key-high) (suc l) p (link-used N (P .key-high) a)
       (λ q. moved m (walkBy call c tick q) ≡ moved m (Note (at c Walk l p))) t (down (link (suc l) p)) (down 0)) tt
     where

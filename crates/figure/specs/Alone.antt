@@ -1,4 +1,4 @@
--- A call that is started and then turned alone does what the published procedures do: the statement. "Alone" means that no
+-- A call that is started and then ran alone does what the published procedures do: the statement. "Alone" means that no
 -- other call is made before it ends; other stations may stand anywhere in calls of theirs.
 use Prim.Native.Nat.{ℕ, zero, suc, _+_, _*_, _-_, _≤_, _<_}
 use mathlib.Core.Bool.{true}
@@ -20,16 +20,16 @@ use Rattle.figure.specs.Steps.{searchSteps, stepsOf}
 -- ---- steps of one process
 
 -- what its steps said, and the store that they left
-pub record Turned : Type 0 where
+pub record Ran : Type 0 where
   pub outcomes : List Stepping
   pub store : Store
 
 -- n steps of process i, and nothing between them
-unfoldable pub turned : Store → (i n : ℕ) → Turned
-turned w i zero = record { outcomes = []; store = w }
-turned w i (suc n) =
+unfoldable pub ran : Store → (i n : ℕ) → Ran
+ran w i zero = record { outcomes = []; store = w }
+ran w i (suc n) =
     let o = stepOf w i in
-    let rest = turned (o .store) i n in
+    let rest = ran (o .store) i n in
     record { outcomes = o .outcome ∷ rest .outcomes; store = rest .store }
 
 -- n steps that all moved on, the first with this tick: no wait, no refusal, no end
@@ -78,7 +78,7 @@ GetAlone = (w : Store) → Reached w → (bound : ℕ) → w .state .counts .nod
     let r = get bound m k in
     let n = stepsOf bound m k (r .answer) 0 in
     begun .outcome ≡ Starting.Started start → start + n ≤ w .state .limit
-    → turned (withState w (begun .state)) i n ≡ record {
+    → ran (withState w (begun .state)) i n ≡ record {
       outcomes = moves (start + 1) (n - 1) ++ (Stepping.Finished (record {
         kind = Get;
         answer = r .answer;
@@ -108,7 +108,7 @@ PutAlone = (w : Store) → Reached w → (bound : ℕ) → w .state .counts .nod
     let o = put alone i bound m k v t draw in
     let n = stepsOf bound m k (o .answer) (topOf draw) in
     Free bound m k (topOf draw) (o .answer) → begun .outcome ≡ Starting.Started start → start + n ≤ w .state .limit
-    → turned (withState w (begun .state)) i n ≡ record {
+    → ran (withState w (begun .state)) i n ≡ record {
       outcomes = moves (start + 1) (n - 1) ++ (Stepping.Finished (record {
         kind = Put;
         answer = o .answer;
@@ -122,7 +122,7 @@ PutAlone = (w : Store) → Reached w → (bound : ℕ) → w .state .counts .nod
     }
 
 -- No lock is held. That is so where no call is running, and then the locks are free that any put needs; and a put that is
--- turned alone there frees its locks again.
+-- ran alone there frees its locks again.
 abbrev pub Unlocked : Memory → Type 0
 Unlocked m = (l x : ℕ) → l ≤ HMAX → x ≤ m .counts .nodes → lock (m .nodes) l x ≡ 0
 
@@ -168,11 +168,11 @@ waited w n = record {
 
 -- n steps move on and leave this memory; after them every step waits, and changes only the event count
 pub record Waits (begun : Store) (i start n : ℕ) (left : Memory) : Type 0 where
-  pub comes : turned begun i n .outcomes ≡ moves (start + 1) n
-  pub leaves : memoryIn (turned begun i n .store) ≡ left
+  pub comes : ran begun i n .outcomes ≡ moves (start + 1) n
+  pub leaves : memoryIn (ran begun i n .store) ≡ left
   pub stays : (more : ℕ) → start + n + more ≤ begun .state .limit
-      → turned (turned begun i n .store) i more
-      ≡ record { outcomes = waits (start + n + 1) more; store = waited (turned begun i n .store) more }
+      → ran (ran begun i n .store) i more
+      ≡ record { outcomes = waits (start + n + 1) more; store = waited (ran begun i n .store) more }
 
 -- What the figure's put has left of memory when it comes to the lock of level l: at the bottom nothing is written yet, and above
 -- it the levels below are done.

@@ -1,4 +1,4 @@
--- Calls one after another, each turned alone to its end: by the store they are the published procedures folded over the list, and
+-- Calls one after another, each ran alone to its end: by the store they are the published procedures folded over the list, and
 -- those are the plain ledger folded over it. So figure 1 implements the plain ledger.
 use Prim.Native.Nat.{ℕ, suc, _+_, _≤_, _<_}
 use mathlib.Core.Bool.{true}
@@ -17,7 +17,7 @@ use Rattle.model.specs.Linearizability.{All}
 use Rattle.figure.specs.Types.{Opening, Stepping}
 use Rattle.figure.specs.Figure.{HMAX, new, get, alone, put}
 use Rattle.figure.specs.Steps.{stepsOf}
-use Rattle.figure.specs.Alone.{Turned, turned, Reached, memoryIn, Resting}
+use Rattle.figure.specs.Alone.{Ran, ran, Reached, memoryIn, Resting}
 
 -- a call to make: by process i
 pub data Request : Type 0 where
@@ -70,11 +70,11 @@ ledgerAll K W b (r ∷ rs) =
 
 -- ---- by the store
 
--- started, then turned so many steps
-unfoldable pub storeDoes : (bound : ℕ) → Store → Request → Turned
+-- started, then ran so many steps
+unfoldable pub storeDoes : (bound : ℕ) → Store → Request → Ran
 storeDoes bound w r =
     let begun = startOf (w .state) (w .nodes) (w .versions) (processOf r) (operationOf r) in
-    turned (withState w (begun .state)) (processOf r) (figureSteps bound (memoryIn w) r)
+    ran (withState w (begun .state)) (processOf r) (figureSteps bound (memoryIn w) r)
 
 -- what finishing steps have told
 unfoldable pub told : List Stepping → List Reply

@@ -1,4 +1,4 @@
--- The number of steps of a call that is turned alone, as a count over the figure's run.
+-- The number of steps of a call that is ran alone, as a count over the figure's run.
 use Prim.Native.Nat.{ℕ, zero, suc, _+_, _*_}
 use lib.Dec.{leb, ltb}
 use Rattle.model.specs.Choice.{if_then_else_}

@@ -14,7 +14,7 @@ use Rattle.model.specs.declared.types.Process.{Process}
 use Rattle.model.specs.declared.types.State.{State}
 use Rattle.model.specs.Layout.{Memory, levels, limits}
 use Rattle.model.specs.State.{processAt, memoryOf}
-use Rattle.model.specs.Phases.{Moved, refuses, turnOf}
+use Rattle.model.specs.Phases.{Moved, refuses, transitionOf}
 use Rattle.model.specs.Calls.{processAfter, Store, storeAfter, Stepped, stepPermit, stepBy, stepOf, storeOf}
 use Rattle.model.proofs.Tests.{if-by}
 use Rattle.refusals.proofs.Laws.{may-step}
@@ -75,7 +75,7 @@ module _ (w nodes versions tally : List ℕ) (i : ℕ) (known : isState w ≡ tr
       moved (omega (arith, f .process)) (v .move) (v .memory)
 
   abbrev turned : Moved
-  turned = turnOf (i + 1) (stateFrom w .events + 1) (processAt (stateFrom w) i) (memoryOf (stateFrom w) nodes versions)
+  turned = transitionOf (i + 1) (stateFrom w .events + 1) (processAt (stateFrom w) i) (memoryOf (stateFrom w) nodes versions)
 
   -- decode, the store's step, encode
   pub step-encoded : stepIn w nodes versions tally i ≡ stepEncoded (stepOf store i)

@@ -16,7 +16,7 @@ use Rattle.model.specs.declared.types.Refusal.the-variants.{Corrupt}
 use Rattle.model.specs.declared.types.Starting.{Starting}
 use Rattle.model.specs.declared.types.Stepping.{Stepping}
 use Rattle.model.specs.Layout.{Memory, limits}
-use Rattle.model.specs.Phases.{moved, turnOf, refuses}
+use Rattle.model.specs.Phases.{moved, transitionOf, refuses}
 use Rattle.model.specs.State.{processAt, withEvent, lawfulStore}
 use Rattle.model.specs.Calls.{processAfter, begun, startBy, Store, storeOf, stepPermit, stepBy, stepOf}
 use Rattle.tables.specs.Room.{memory}
@@ -139,7 +139,7 @@ module _ (w nodes versions tally : List ℕ) (i : ℕ) where
         (used : counts ≡ stateFrom w .counts)
         (granted : stepPermit store i ≡ Granted)
         (few : i < limits .processes)
-        (turned : moved m v ≡ turnOf (i + 1) (events + 1) (standing w (startOf i)) (memory nodes versions counts))
+        (turned : moved m v ≡ transitionOf (i + 1) (events + 1) (standing w (startOf i)) (memory nodes versions counts))
       where
         found : standing w (startOf i) ≡ processAt (stateFrom w) i
         found = sym (process-at w i few)

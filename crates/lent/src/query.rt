@@ -4,6 +4,7 @@ ghost use Rattle.lent.specs.Calls.{lookIn, inspectIn, statusIn};
 use layout::state::is_state;
 use layout::state::state_in;
 use model::types::Inspecting;
+use model::types::Key;
 use model::types::Looking;
 use model::types::Refusal;
 use model::types::Status;
@@ -13,7 +14,7 @@ use queries::status::status;
 
 // The version of a key that lies `back` places behind its newest. All of the state is tested, not one process as at a step:
 // it is decoded whole.
-pub fn look_in(words: &[u32], nodes: &[u32], versions: &[u32], key: u64, back: u32) -> Looking
+pub fn look_in(words: &[u32], nodes: &[u32], versions: &[u32], key: Key, back: u32) -> Looking
     ensures { λ r. ⌜ r ≡ lookIn (now (words .entry)) (now (nodes .entry)) (now (versions .entry)) key back ⌝ }
 {
     if !is_state(words) {

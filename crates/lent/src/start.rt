@@ -8,10 +8,12 @@ ghost use Rattle.lent.specs.Calls.{callWith, startedIn, startWithIn, beg
 use calls::begin::begin;
 use calls::begin::top_of;
 use calls::slot::slot;
+use layout::head::HeadOffsets;
 use layout::state::counts_in;
 use layout::state::is_state;
 use layout::state::put_event;
 use model::types::Call;
+use model::types::Key;
 use model::types::Kind;
 use model::types::Permit;
 use model::types::Refusal;
@@ -43,7 +45,7 @@ fn start_in(
     versions: &[u32],
     process: u32,
     kind: Kind,
-    key: u64,
+    key: Key,
     value: u32,
     timestamp: u32,
     top: u32,
@@ -57,11 +59,18 @@ fn start_in(
     }
     let at = Sizes::HEAD + Sizes::PROCESS * slot(process);
     let held = kind_of(words[at]);
-    let permit = start_permit(&words[1..Sizes::HEAD], held, nodes, versions, process, key);
+    let permit = start_permit(
+        &words[HeadOffsets::HEADER..Sizes::HEAD],
+        held,
+        nodes,
+        versions,
+        process,
+        key,
+    );
     match permit {
         Permit::Denied(refusal) => Starting::Refused(refusal),
         Permit::Granted => {
-            let tick = words[4] + 1;
+            let tick = words[HeadOffsets::EVENTS] + 1;
             let call = Call {
                 kind,
                 key,
@@ -82,7 +91,7 @@ pub fn start_put_in(
     nodes: &[u32],
     versions: &[u32],
     process: u32,
-    key: u64,
+    key: Key,
     value: u32,
     timestamp: u32,
     draw: u16,
@@ -110,7 +119,7 @@ pub fn start_get_in(
     nodes: &[u32],
     versions: &[u32],
     process: u32,
-    key: u64,
+    key: Key,
 ) -> Starting
     ensures { λ r. ⌜ startedIn r (now (words .exit))
         ≡ startIn (now (words .entry)) (now (nodes .entry)) (now (versions .entry)) process (get key) ⌝ }

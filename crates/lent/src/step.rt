@@ -6,6 +6,7 @@ ghost use Rattle.model.specs.Layout.{limits};
 ghost use Rattle.model.specs.declared.types.Permit.the-variants.{Granted};
 ghost use Rattle.lent.specs.Calls.{lawfulIn, steppedIn, stepIn, stepPermitIn};
 use apply::leave::leave;
+use layout::head::HeadOffsets;
 use layout::state::counts_in;
 use layout::state::is_head;
 use layout::state::is_state_at;
@@ -18,7 +19,7 @@ use process::numbers::kind_of;
 use process::types::Sizes;
 use refusals::lawful::lawful_store;
 use refusals::permit::step_permit;
-use transition::turn::turn;
+use transition::step::transition;
 
 // A number past the last process has no words: its step is refused.
 fn step_past(
@@ -36,7 +37,7 @@ fn step_past(
         return Stepping::Refused(Refusal::Corrupt);
     }
     let permit = step_permit(
-        &words[1..Sizes::HEAD],
+        &words[HeadOffsets::HEADER..Sizes::HEAD],
         Kind::Idle,
         nodes,
         versions,
@@ -57,13 +58,13 @@ fn lawful_in(words: &[u32], process: u32, nodes: &[u32], versions: &[u32]) -> bo
     if !is_head(words) {
         return false;
     }
-    if !lawful_store(&words[1..Sizes::HEAD], nodes, versions) {
+    if !lawful_store(&words[HeadOffsets::HEADER..Sizes::HEAD], nodes, versions) {
         return false;
     }
     is_state_at(words, process)
 }
 
-// A step that is let pass: the turn of its process, and what that leaves.
+// A step that is let pass: the transition of its process, and what that leaves.
 fn advance_in(
     words: &mut [u32],
     process: u32,
@@ -77,9 +78,9 @@ fn advance_in(
 {
     let at = Sizes::HEAD + Sizes::PROCESS * process as usize;
     let end = at + Sizes::PROCESS;
-    let tick = words[4] + 1;
+    let tick = words[HeadOffsets::EVENTS] + 1;
     let held = counts_in(words);
-    let t = turn(&words[at..end], held, process + 1, tick, nodes, versions);
+    let t = transition(&words[at..end], held, process + 1, tick, nodes, versions);
     let mv = t.mv;
     let counts = t.counts;
     leave(words, at, tick, counts, mv, tally)
@@ -101,7 +102,7 @@ fn step_known(
     let at = Sizes::HEAD + Sizes::PROCESS * process as usize;
     let kind = kind_of(words[at]);
     let permit = step_permit(
-        &words[1..Sizes::HEAD],
+        &words[HeadOffsets::HEADER..Sizes::HEAD],
         kind,
         nodes,
         versions,

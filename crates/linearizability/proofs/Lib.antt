@@ -9,7 +9,7 @@ pub mod Locking
 pub mod Update
 pub mod Make
 pub mod Link
-pub mod Turn
+pub mod Transition
 pub mod Locks
 pub mod Effects
 pub mod Live

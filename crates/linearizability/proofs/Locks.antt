@@ -9,7 +9,7 @@ use lib.Dec.{eqb}
 use lib.ListN.{length}
 use Rattle.linearizability.specs.Types.{Idle, Phase, Walk, Read, Seek, Lock, Check, Update, Make, Link, Release, Answer, Cursor, Process, Ahead, Unused, Less, Equal, Past, Move, Refuse, Wait, Go, Note, Commit, End}
 use Rattle.model.specs.Layout.{Memory, topLevel, word, key, newest, next, lock, timestamp, withWord}
-use Rattle.model.specs.Phases.{Moved, moved, refuses, at, aheadOf, usedNode, usedVersion, maxNodes, maxVersions, withHolder, lockOf, checked, checkBy, checkOf, committed, addVersion, updateNode, updateAt, updateOf, addNode, makeOf, addLink, linkOf, released, freed, releaseOf, walkOf, readOf, seekOf, lawfulProcess, phaseOf, turnOf}
+use Rattle.model.specs.Phases.{Moved, moved, refuses, at, aheadOf, usedNode, usedVersion, maxNodes, maxVersions, withHolder, lockOf, checked, checkBy, checkOf, committed, addVersion, updateNode, updateAt, updateOf, addNode, makeOf, addLink, linkOf, released, freed, releaseOf, walkOf, readOf, seekOf, lawfulProcess, phaseOf, transitionOf}
 use Rattle.model.specs.Calls.{processAfter}
 use Rattle.model.proofs.Laws.{refused-is}
 use Rattle.model.proofs.Tests.{if-by, if-eq, if-le, if-lt, by-eq, is-true}
@@ -203,7 +203,7 @@ module _ (m : Memory) (i : ℕ) (tick : ℕ) (pr : Process) (size : length (m .n
   phase-locked Release e = release-locked (subst (λ q. Holding q) (sym e) tt) (released (pr .call) c (pr .effect) (pr .preds) m)
 
   -- any step, whether refused or not
-  pub step-locked : L (turnOf (i + 1) tick pr m)
-  unfolding turnOf processAfter
+  pub step-locked : L (transitionOf (i + 1) tick pr m)
+  unfolding transitionOf processAfter
   step-locked =
       if-by L (lawfulProcess pr m) (λ t. phase-locked (c .phase) refl) (λ t. steady Refuse m (λ l x h6 hx j e. (hx, e)) (λ l x k. k))

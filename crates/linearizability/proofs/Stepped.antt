@@ -17,7 +17,7 @@ use Rattle.model.specs.Map as Seq
 use Rattle.model.specs.Numbers.{placeOf}
 use Rattle.model.specs.Roles.{isPut, isGet}
 use Rattle.model.specs.State.{idleProcess, noProcess, withEvent}
-use Rattle.model.specs.Phases.{Moved, moved, ownVersion, turnOf}
+use Rattle.model.specs.Phases.{Moved, moved, ownVersion, transitionOf}
 use Rattle.model.specs.Calls.{callFor, Store, stepPermit, processAfter, outcomeOf, counted, tallyAfter, evented, storeAfter, stepBy, stepOf}
 use Rattle.model.specs.Requests.{Operation, put, get, kindOf}
 use Rattle.model.specs.History.{Action, step, Invoked, Pending, no-call, has-call, pendingAt, isFree, due, Completed, finished}
@@ -27,7 +27,7 @@ use Rattle.model.proofs.Tests.{if-by, if-lt, if-eq, by-eq, is-true, eq→eqb}
 use Rattle.linearizability.proofs.Invariant.{Puts, Gets, Climbs}
 use Rattle.linearizability.proofs.Frame.{fits-kept}
 use Rattle.linearizability.proofs.Step.{Ending, Does, Good}
-use Rattle.linearizability.proofs.Turn.{turn-good}
+use Rattle.linearizability.proofs.Transition.{transition-good}
 use Rattle.linearizability.proofs.Locks.{Locked, step-locked}
 use Rattle.linearizability.proofs.Effects.{Took, nothing, took, fed, played, nothing≢took, grows-on, Entered, entered-grow, entered-now}
 use Rattle.linearizability.proofs.Live.{memory, slot, Core, keptOf, Hist, LiveFrom, event-hist, done-grow, slot-same, core-lawful, one-busy, none-busy, busy-set, kept-kind, kind≢idle, idle-free, has-injective, pending-same, pending-other}
@@ -474,17 +474,17 @@ module _ {from : List Took} {K W : ℕ} {w : Store} {h : Seen} (l : LiveFrom fro
   move-live (End a v e) m G lk =
       subst (λ (s : Seen). LiveFrom from K W (evented w i (End a v e) m) s) (saw-end a v e) (end-live m a v e G lk (G .does .1))
 
-  pub granted-live : LiveFrom from K W (storeAfter w i (turnOf (i + 1) tick pr (memory w) .move) (turnOf (i + 1) tick pr (memory w) .memory))
-      (sawStep h i (outcomeOf tick (pr .call) (turnOf (i + 1) tick pr (memory w) .move)))
+  pub granted-live : LiveFrom from K W (storeAfter w i (transitionOf (i + 1) tick pr (memory w) .move) (transitionOf (i + 1) tick pr (memory w) .memory))
+      (sawStep h i (outcomeOf tick (pr .call) (transitionOf (i + 1) tick pr (memory w) .move)))
   granted-live =
       let k = l .core in
-      let r = turnOf (i + 1) tick pr (memory w) in
-      move-live (r .move) (r .memory) (turn-good (memory w) (l .g) i pr tick (l .b) (k .nodes) (k .book) (omega arith) (k .fits i) busy)
+      let r = transitionOf (i + 1) tick pr (memory w) in
+      move-live (r .move) (r .memory) (transition-good (memory w) (l .g) i pr tick (l .b) (k .nodes) (k .book) (omega arith) (k .fits i) busy)
       (step-locked (memory w) i tick pr (k .nodes .size) (k .nodes .room) (k .locks i) (basic .0) (basic .1) busy)
     where
       basic : (pr .cursor .level < 6) × (pr .cursor .pred ≤ w .state .counts .nodes)
       basic =
-          Rattle.linearizability.proofs.Turn.basic (memory w) (l .g) i pr tick (l .b) (l .core .nodes) (l .core .book) (l .core .fits i) busy
+          Rattle.linearizability.proofs.Transition.basic (memory w) (l .g) i pr tick (l .b) (l .core .nodes) (l .core .book) (l .core .fits i) busy
 
 -- ---- any step
 
@@ -494,7 +494,7 @@ unfolding stepOf
 step-live {from} {K} {W} {w} {h} l i = rw due (go (seenDue h (step i)) refl)
   where
     r : Moved
-    r = turnOf (i + 1) (w .state .events + 1) (slot w i) (memory w)
+    r = transitionOf (i + 1) (w .state .events + 1) (slot w i) (memory w)
 
     due : stepPermit w i ≡ seenDue h (step i)
     due =

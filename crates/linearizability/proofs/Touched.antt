@@ -8,7 +8,7 @@ use lib.Dec.{T, eqb, ltb, leb, leb→le}
 use Rattle.linearizability.specs.Types.{Phase, Walk, Read, Seek, Lock, Check, Update, Make, Link, Release, Call, Cursor, Process, Ahead, Unused, Less, Equal, Past, Move, Refuse, Wait, Go, Note, Commit, End, Permit, Granted, Denied}
 use Rattle.model.specs.Layout.{Memory, topLevel, word, field, newest, next, lock, timestamp, withNext, withNode}
 use Rattle.model.specs.State.{processAt, memoryOf}
-use Rattle.model.specs.Phases.{Moved, moved, refuses, ownVersion, usedNode, usedVersion, maxNodes, maxVersions, withHolder, lockOf, checkBy, checkOf, addVersion, updateNode, updateAt, updateOf, addNode, makeOf, addLink, linkOf, freed, releaseOf, lawfulProcess, phaseOf, turnOf, released, aheadOf}
+use Rattle.model.specs.Phases.{Moved, moved, refuses, ownVersion, usedNode, usedVersion, maxNodes, maxVersions, withHolder, lockOf, checkBy, checkOf, addVersion, updateNode, updateAt, updateOf, addNode, makeOf, addLink, linkOf, freed, releaseOf, lawfulProcess, phaseOf, transitionOf, released, aheadOf}
 use Rattle.model.specs.Calls.{Store, stepPermit, stepBy, stepOf}
 use Rattle.model.specs.Touched.{MayWriteNode, MayWriteVersion}
 use Rattle.model.proofs.Tests.{if-by, and→}
@@ -108,10 +108,10 @@ phase-spares Link holder tick p m low = link-spares (p .cursor) m low
 phase-spares Release holder tick p m low =
     release-spares (p .cursor) m low (released (p .call) (p .cursor) (p .effect) (p .preds) m)
 
-pub turn-spares : (holder tick : ℕ) (p : Process) (m : Memory)
-    → Spares (p .cursor .phase) (p .cursor) m (turnOf holder tick p m .memory)
-unfolding turnOf lawfulProcess
-turn-spares holder tick p m = if-by (λ (r : Moved). Spares (p .cursor .phase) (p .cursor) m (r .memory)) (lawfulProcess p m)
+pub transition-spares : (holder tick : ℕ) (p : Process) (m : Memory)
+    → Spares (p .cursor .phase) (p .cursor) m (transitionOf holder tick p m .memory)
+unfolding transitionOf lawfulProcess
+transition-spares holder tick p m = if-by (λ (r : Moved). Spares (p .cursor .phase) (p .cursor) m (r .memory)) (lawfulProcess p m)
     (λ t. phase-spares (p .cursor .phase) holder tick p m (leb→le (p .cursor .level) topLevel (level t)))
     (λ t. untouched (p .cursor .phase) (p .cursor) m)
   where
@@ -126,8 +126,8 @@ pub step-spares : (w : Store) (i : ℕ)
 unfolding stepOf
 step-spares w i =
     let p = processAt (w .state) i in
-    let r = turnOf (i + 1) (w .state .events + 1) p (memoryOf (w .state) (w .nodes) (w .versions)) in
-    by-permit (stepPermit w i) (r .move) (r .memory) (turn-spares (i + 1) (w .state .events + 1) p (memoryOf (w .state) (w .nodes) (w .versions)))
+    let r = transitionOf (i + 1) (w .state .events + 1) p (memoryOf (w .state) (w .nodes) (w .versions)) in
+    by-permit (stepPermit w i) (r .move) (r .memory) (transition-spares (i + 1) (w .state .events + 1) p (memoryOf (w .state) (w .nodes) (w .versions)))
   where
     p₀ : Process
     p₀ = processAt (w .state) i

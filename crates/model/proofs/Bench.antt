@@ -127,7 +127,7 @@ unfolding open-bench start call-of ledger-of answer-to
     Phases.lockOf Phases.checkBy Phases.checkOf Phases.addVersion Phases.updateNode Phases.updateAt Phases.updateOf
     Phases.addNode Phases.makeOf Phases.addLink Phases.linkOf Phases.rise Phases.released Phases.freed
     Phases.releaseOf Phases.lawfulAt Phases.lawfulProcess
-    Phases.phaseOf Phases.turnOf
+    Phases.phaseOf Phases.transitionOf
     Calls.openDue Calls.openBy openOf trailingZeros topOf Calls.startPermit Calls.startBy Calls.callFor startOf
     Calls.stepPermit Calls.processAfter Calls.outcomeOf Calls.counted Calls.tallyAfter Calls.stepBy stepOf
     Calls.findFrom Calls.backFrom Calls.lookNode Calls.lookPermit Calls.lookBy lookOf

@@ -24,7 +24,7 @@ use Rattle.model.specs.Requests.{Fitting, Operation, keyOf}
 use Rattle.model.specs.State.{closedState, memoryOf, within, lawfulLength, lawfulNodes, lawfulVersions, lawfulKey}
 use Rattle.model.proofs.Tests.{leb-iff, eqb-iff, if-by}
 use Rattle.model.specs.Phases.{Moved, moved, refuses, usedVersion, lockOf, checkBy, checkOf, updateNode, updateAt}
-use Rattle.model.specs.Phases.{updateOf, makeOf, linkOf, rise, released, freed, releaseOf, phaseOf, turnOf}
+use Rattle.model.specs.Phases.{updateOf, makeOf, linkOf, rise, released, freed, releaseOf, phaseOf, transitionOf}
 use Rattle.model.specs.Calls.{denyIf, openDue, openPermit, Opened, openBy, openOf, topOf, startPermit, startBy, startOf}
 use Rattle.model.specs.Calls.{Store, stepPermit, processAfter, outcomeOf, counted, tallyAfter, stepBy, stepOf}
 use Rattle.model.specs.Calls.{backFrom, lookNode, lookPermit, lookBy, lookOf}
@@ -335,9 +335,9 @@ keeps-phase Link holder tick p m = keeps-link _ _
 keeps-phase Release holder tick p m = keeps-release _ _ _ _ _
 
 -- damage found, or a lock held: the memory is the one given
-pub turn-keeps : (holder tick : ℕ) (p : Process) (m : Memory) → Keeps m (turnOf holder tick p m)
-unfolding turnOf
-turn-keeps holder tick p m = search (keeping, keeps-phase)
+pub transition-keeps : (holder tick : ℕ) (p : Process) (m : Memory) → Keeps m (transitionOf holder tick p m)
+unfolding transitionOf
+transition-keeps holder tick p m = search (keeping, keeps-phase)
 
 -- ---- steps
 
@@ -406,7 +406,7 @@ module _ (w : Store) (i : ℕ) where
   -- "the step answers 'wait' and changes only the event count"
   pub step-waits : (t : ℕ) → stepOf w i .outcome ≡ Stepping.Waited t → stepOf w i .store ≡ waited w
   unfolding stepOf
-  step-waits t = waits-by (stepPermit w i) _ _ t (turn-keeps _ _ _ _ .waits)
+  step-waits t = waits-by (stepPermit w i) _ _ t (transition-keeps _ _ _ _ .waits)
 
 -- ---- looks
 

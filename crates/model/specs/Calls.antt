@@ -13,7 +13,7 @@ use Rattle.model.specs.Numbers.{placeOf}
 use Rattle.model.specs.Roles.{isIdle}
 use Rattle.model.specs.Requests.{Fitting, Operation, put, get, keyOf}
 use Rattle.model.specs.State.{idleProcess, processAt, freshState, closedState, withEvent, memoryOf, within, lawfulNodes, lawfulVersions, lawfulKey, lawfulState, lawfulStore}
-use Rattle.model.specs.Phases.{Moved, refuses, usedVersion, turnOf}
+use Rattle.model.specs.Phases.{Moved, refuses, usedVersion, transitionOf}
 
 -- "Each is given if its condition is the first met in the order below, and never otherwise."
 abbrev pub denyIf : Bool → Refusal → Permit → Permit
@@ -198,7 +198,7 @@ stepBy Granted w i v = record {
 
 unfoldable pub stepOf : Store → (process : ℕ) → Stepped
 stepOf w i = stepBy (stepPermit w i) w i
-    (turnOf (i + 1) (w .state .events + 1) (processAt (w .state) i) (memoryOf (w .state) (w .nodes) (w .versions)))
+    (transitionOf (i + 1) (w .state .events + 1) (processAt (w .state) i) (memoryOf (w .state) (w .nodes) (w .versions)))
 
 -- ---- look
 

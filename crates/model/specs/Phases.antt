@@ -262,7 +262,7 @@ phaseOf Link holder tick p m = linkOf (p .cursor) m
 phaseOf Release holder tick p m = releaseOf (p .call) (p .cursor) (p .effect) (p .preds) m
 
 -- one step of one call: `holder` is the process's number plus 1, `tick` that of this event
-unfoldable pub turnOf : (holder tick : ℕ) → Process → Memory → Moved
-turnOf holder tick p m =
+unfoldable pub transitionOf : (holder tick : ℕ) → Process → Memory → Moved
+transitionOf holder tick p m =
     if lawfulProcess p m then phaseOf (p .cursor .phase) holder tick p m
     else moved m Refuse

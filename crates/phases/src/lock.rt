@@ -5,7 +5,7 @@ ghost use Prim.Native.Nat.{ℕ};
 ghost use Rattle.phases.specs.Types.{Counts};
 ghost use Rattle.model.specs.Phases.{moved, lockOf, checked, checkOf, rise, released, releaseOf};
 ghost use Rattle.tables.specs.Room.{LevelRoom, memory, nodesIn};
-ghost use Rattle.phases.specs.Turn.{Ready};
+ghost use Rattle.phases.specs.Ready.{Ready};
 use crate::moves::go;
 use crate::moves::is_refusal;
 use model::roles::is_new;
@@ -65,7 +65,7 @@ pub fn check(call: Call, c: Cursor, used: u32, nodes: &mut [u32]) -> Move
 }
 
 // One level up, at the node remembered there.
-fn rise(call: Call, c: Cursor, used: u32, preds: [u32; 6], otherwise: Move) -> Move
+fn rise(call: Call, c: Cursor, used: u32, preds: [u32; State::LEVELS], otherwise: Move) -> Move
     ensures { λ r. ⌜ ((nodes versions : List ℕ) (n : ℕ) → r ≡ rise call c preds (nodesIn nodes used versions n) otherwise) ⌝ }
 {
     if State::TOP < call.top {
@@ -84,7 +84,7 @@ fn rise(call: Call, c: Cursor, used: u32, preds: [u32; 6], otherwise: Move) -> M
     }
 }
 
-fn released(call: Call, c: Cursor, e: Effect, used: u32, preds: [u32; 6]) -> Move
+fn released(call: Call, c: Cursor, e: Effect, used: u32, preds: [u32; State::LEVELS]) -> Move
     ensures { λ r. ⌜ ((nodes versions : List ℕ) (n : ℕ) → r ≡ released call c e preds (nodesIn nodes used versions n)) ⌝ }
 {
     let answer = e.answer;
@@ -107,7 +107,7 @@ pub fn release(
     c: Cursor,
     e: Effect,
     used: u32,
-    preds: [u32; 6],
+    preds: [u32; State::LEVELS],
     nodes: &mut [u32],
 ) -> Move
     requires { ⌜ LevelRoom (now nodes) (c .level) (c .pred) ⌝ }

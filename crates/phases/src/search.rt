@@ -5,7 +5,7 @@ ghost use Prim.Native.Nat.{ℕ};
 ghost use Rattle.phases.specs.Types.{Call};
 ghost use Rattle.model.specs.Phases.{descend, walkOf, readOf, seekOf};
 ghost use Rattle.tables.specs.Room.{VersionRoom, memory, nodesIn};
-ghost use Rattle.phases.specs.Turn.{Ready};
+ghost use Rattle.phases.specs.Ready.{Ready};
 use crate::moves::go;
 use crate::moves::note;
 use model::types::Ahead;

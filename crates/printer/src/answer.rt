@@ -3,6 +3,7 @@ ghost use mathlib.Core.Path.{_≡_};
 ghost use Rattle.printer.specs.Answers.{openLine, startLine, stepLine, lookLine, inspectLine};
 use crate::types::Line;
 use model::types::Inspecting;
+use model::types::Key;
 use model::types::Looking;
 use model::types::Opening;
 use model::types::Starting;
@@ -42,7 +43,7 @@ pub fn of_step(process: u32, outcome: Stepping) -> Line
     }
 }
 
-pub fn of_look(key: u64, back: u32, outcome: Looking) -> Line
+pub fn of_look(key: Key, back: u32, outcome: Looking) -> Line
     ensures { λ r. ⌜ r ≡ lookLine key back outcome ⌝ }
 {
     match outcome {

@@ -13,6 +13,7 @@ use crate::types::Sentence;
 use model::numbers::number_of;
 use model::types::Answer;
 use model::types::Finish;
+use model::types::Key;
 use model::types::Kind;
 
 // How the line of a finished call begins.
@@ -54,7 +55,7 @@ fn two(opening: Format, first: u32, second: u32) -> Sentence
 }
 
 // A line of four numbers, of which one may be the key.
-fn four(opening: Format, key: u64, first: u32, second: u32, third: u32, fourth: u32) -> Sentence
+fn four(opening: Format, key: Key, first: u32, second: u32, third: u32, fourth: u32) -> Sentence
     ensures { λ r. ⌜ r ≡ said opening key (first ∷ second ∷ third ∷ fourth ∷ 0 ∷ 0 ∷ []) ⌝ }
 {
     Sentence {

@@ -1,5 +1,6 @@
 // A line of output, and what it says.
 use model::types::Finish;
+use model::types::Key;
 use model::types::Refusal;
 
 // A line of output. `Stepped` is a step that went on, `Waited` one at a held lock, `Done` one that finished its call.
@@ -27,7 +28,7 @@ pub enum Line {
         finish: Finish,
     },
     Looked {
-        key: u64,
+        key: Key,
         back: u32,
         value: u32,
         timestamp: u32,
@@ -47,7 +48,7 @@ pub type Format = [u8; 25];
 pub struct Sentence {
     pub opening: Format,
     pub closing: Format,
-    pub key: u64,
+    pub key: Key,
     pub numbers: [u32; 6],
 }
 

@@ -4,6 +4,7 @@ ghost use Rattle.model.specs.Calls.{findFrom, backFrom, lookNode, lookOf};
 ghost use Rattle.tables.specs.Room.{NodeRoom, VersionRoom, memory, Lent};
 use layout::head::header_of;
 use model::types::Counts;
+use model::types::Key;
 use model::types::Looking;
 use model::types::Permit;
 use model::types::Refusal;
@@ -15,7 +16,7 @@ use tables::versions::prev_at;
 use tables::versions::version_at;
 
 // The first node that has the key, or 0; `used` is the last node in use.
-fn find(nodes: &[u32], used: u32, key: u64) -> u32
+fn find(nodes: &[u32], used: u32, key: Key) -> u32
     requires { ⌜ NodeRoom (now nodes) used ⌝ }
     ensures { λ r. ⌜ r ≡ findFrom (now (nodes .entry)) key used 1 ⌝ }
 {
@@ -69,7 +70,7 @@ fn look_node(counts: Counts, nodes: &[u32], versions: &[u32], back: u32, node: u
 }
 
 // The version of the key that lies `back` places behind its newest.
-pub fn look(s: State, nodes: &[u32], versions: &[u32], key: u64, back: u32) -> Looking
+pub fn look(s: State, nodes: &[u32], versions: &[u32], key: Key, back: u32) -> Looking
     ensures { λ r. ⌜ r ≡ lookOf s (now (nodes .entry)) (now (versions .entry)) key back ⌝ }
 {
     let h = header_of(s);

@@ -1,4 +1,4 @@
-// One step of one process, on small records: its turn, what that leaves of it, and the tally.
+// One step of one process, on small records: its transition, what that leaves of it, and the tally.
 ghost use mathlib.Core.Path.{_≡_};
 ghost use lib.ListN.{length};
 ghost use Rattle.model.specs.Layout.{limits};
@@ -15,7 +15,7 @@ use model::types::Refusal;
 use model::types::Stepping;
 use phases::moves::is_refusal;
 use process::words::words_of;
-use transition::turn::turn;
+use transition::step::transition;
 
 // The process after its step, for the caller to put back: where the step is refused, as it was. `holder` is the process's
 // number plus 1, `tick` that of this event.
@@ -34,7 +34,7 @@ pub fn advance(
         ≡ advanceOf holder tick p (memory (now (nodes .entry)) (now (versions .entry)) counts) (now (tally .entry)) ⌝ }
 {
     let w = words_of(p);
-    let t = turn(&w, counts, holder, tick, nodes, versions);
+    let t = transition(&w, counts, holder, tick, nodes, versions);
     let call = p.call;
     let mv = t.mv;
     let left = t.counts;

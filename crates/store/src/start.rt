@@ -8,6 +8,7 @@ use calls::begin::top_of;
 use calls::slot::slot;
 use layout::head::header_of;
 use model::types::Call;
+use model::types::Key;
 use model::types::Kind;
 use model::types::Permit;
 use model::types::StartResult;
@@ -50,7 +51,7 @@ pub fn start_put(
     nodes: &[u32],
     versions: &[u32],
     process: u32,
-    key: u64,
+    key: Key,
     value: u32,
     timestamp: u32,
     draw: u16,
@@ -70,7 +71,7 @@ pub fn start_put(
 }
 
 // A get keeps the record of a put, with what it does not use at 0.
-pub fn start_get(s: State, nodes: &[u32], versions: &[u32], process: u32, key: u64) -> StartResult
+pub fn start_get(s: State, nodes: &[u32], versions: &[u32], process: u32, key: Key) -> StartResult
     ensures { λ r. ⌜ r ≡ startOf s (now (nodes .entry)) (now (versions .entry)) process (get key) ⌝ }
 {
     let asked = Call {

@@ -11,7 +11,7 @@ use Rattle.model.specs.Layout.{Memory, limits, nodeWords, versionWords, topLeve
 use Rattle.model.specs.State.{memoryOf}
 use Rattle.model.specs.Phases.{Moved, moved, refuses, usedNode, usedVersion, maxNodes, maxVersions, withHolder, aheadOf, lockOf, checkBy}
 use Rattle.model.specs.Phases.{checkOf, addVersion, updateNode, updateAt, updateOf, addNode, makeOf, addLink, linkOf, freed}
-use Rattle.model.specs.Phases.{released, releaseOf, lawfulProcess, phaseOf, turnOf}
+use Rattle.model.specs.Phases.{released, releaseOf, lawfulProcess, phaseOf, transitionOf}
 use Rattle.model.specs.Calls.{openPermit, openBy, openOf, Store, stepPermit, stepBy, stepOf}
 use Rattle.model.proofs.Laws.{length-tally}
 use Rattle.model.proofs.Tests.{if-by}
@@ -99,9 +99,9 @@ phase-long Make holder tick p m = make-long (p .cursor) m (p .call)
 phase-long Link holder tick p m = link-long (p .cursor) m
 phase-long Release holder tick p m = release-long (p .cursor) m (released (p .call) (p .cursor) (p .effect) (p .preds) m)
 
-turn-long : (holder tick : ℕ) (p : Process) (m : Memory) → Long m (turnOf holder tick p m .memory)
-unfolding turnOf
-turn-long holder tick p m =
+transition-long : (holder tick : ℕ) (p : Process) (m : Memory) → Long m (transitionOf holder tick p m .memory)
+unfolding transitionOf
+transition-long holder tick p m =
     if-by (λ (r : Moved). Long m (r .memory)) (lawfulProcess p m) (λ t. phase-long (p .cursor .phase) holder tick p m)
     (λ t. as-long m)
 
@@ -130,7 +130,7 @@ module _ (w : Store) (i : ℕ) (m : Memory) (l : Long (memoryOf (w .state) (w .n
 
 pub step-keeps : (w : Store) (i : ℕ) → Keeps w (stepOf w i .store)
 unfolding stepOf
-step-keeps w i = step-by w i _ (turn-long _ _ _ _) (stepPermit w i) _
+step-keeps w i = step-by w i _ (transition-long _ _ _ _) (stepPermit w i) _
 
 -- ---- an opening
 

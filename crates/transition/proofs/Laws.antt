@@ -11,7 +11,7 @@ use Rattle.model.specs.declared.types.Process.{Process}
 use Rattle.model.specs.declared.types.Move.the-variants.{Refuse}
 use Rattle.model.specs.Choice.{if_then_else_}
 use Rattle.model.specs.Layout.{Memory, topLevel}
-use Rattle.model.specs.Phases.{Moved, moved, lawfulProcess, phaseOf, turnOf, refuses}
+use Rattle.model.specs.Phases.{Moved, moved, lawfulProcess, phaseOf, transitionOf, refuses}
 use Rattle.model.proofs.Tests.{leb-iff}
 use Rattle.transition.specs.Process.{process}
 
@@ -39,9 +39,9 @@ lawful-by q call c e m b is-call is-cursor is-effect x =
     ∙ ap (λ e. lawfulProcess (process (q .call) (q .cursor) e (q .preds)) m) is-effect
 
 -- a move that is no refusal tells a lawful level
-pub level-fits : (holder tick : ℕ) (p : Process) (m : Memory) → refuses (turnOf holder tick p m .move) ≡ false
+pub level-fits : (holder tick : ℕ) (p : Process) (m : Memory) → refuses (transitionOf holder tick p m .move) ≡ false
     → p .cursor .level ≤ topLevel
-unfolding turnOf
+unfolding transitionOf
 level-fits holder tick p m = cases (lawfulProcess p m) refl
   where
     cases : (b : Bool) → lawfulProcess p m ≡ b

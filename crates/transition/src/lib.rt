@@ -1,3 +1,3 @@
 // One step of one call: its process tested, then the step of its phase. The state is not seen here.
 mod lawful;
-pub mod turn;
+pub mod step;

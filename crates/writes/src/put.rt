@@ -5,18 +5,19 @@ ghost use Prim.Native.Nat.{ℕ, _≤_};
 ghost use Rattle.model.specs.Layout.{next, withNext, withNode};
 ghost use Rattle.model.specs.Phases.{moved, committed, addVersion, updateNode, updateOf, addNode, makeOf, linkOf};
 ghost use Rattle.tables.specs.Room.{NodeRoom, Lent, memory, nodesIn};
-ghost use Rattle.phases.specs.Turn.{Ready, leaves};
+ghost use Rattle.phases.specs.Ready.{Ready, leaves};
 ghost use Rattle.writes.specs.Put.{NodeSpare, VersionSpare};
 use model::types::Answer;
 use model::types::Call;
 use model::types::Counts;
 use model::types::Cursor;
+use model::types::Key;
 use model::types::Move;
 use model::types::Phase;
 use model::types::State;
 use phases::moves::commit;
 use phases::moves::go;
-use phases::types::Turned;
+use phases::types::Transition;
 use tables::nodes::newest_at;
 use tables::nodes::next_at;
 use tables::nodes::nodes_full;
@@ -51,10 +52,10 @@ fn add_version(
 }
 
 // The put takes effect with an answer that changes no table.
-fn keep(c: Cursor, answer: Answer, counts: Counts) -> Turned
+fn keep(c: Cursor, answer: Answer, counts: Counts) -> Transition
     ensures { λ r. ⌜ r ≡ (record { mv = committed c (c .made) answer; counts = counts }) ⌝ }
 {
-    Turned {
+    Transition {
         mv: commit(c, c.made, answer),
         counts,
     }
@@ -69,7 +70,7 @@ fn update_node(
     counts: Counts,
     nodes: &mut [u32],
     versions: &mut [u32],
-) -> Turned
+) -> Transition
     requires { ⌜ NodeRoom (now nodes) node ⌝ }
     requires { ⌜ newest ≤ counts .versions ⌝ }
     requires { ⌜ Lent (now nodes) (now versions) counts ⌝ }
@@ -93,7 +94,7 @@ pub fn update(
     counts: Counts,
     nodes: &mut [u32],
     versions: &mut [u32],
-) -> Turned
+) -> Transition
     requires { ⌜ Ready (now nodes) (counts .nodes) c ⌝ }
     requires { ⌜ Lent (now nodes) (now versions) counts ⌝ }
     ensures { λ r. ⌜ leaves r (now (nodes .exit)) (now (versions .exit))
@@ -110,14 +111,14 @@ pub fn update(
             return update_node(call, c, node, newest, counts, nodes, versions);
         }
     }
-    Turned {
+    Transition {
         mv: Move::Refuse,
         counts,
     }
 }
 
 // A new node behind its predecessor at level 0.
-fn insert(nodes: &mut [u32], pred: u32, node: u32, key: u64, version: u32, top: u32)
+fn insert(nodes: &mut [u32], pred: u32, node: u32, key: Key, version: u32, top: u32)
     requires { ⌜ NodeRoom (now nodes) pred ⌝ }
     requires { ⌜ NodeRoom (now nodes) node ⌝ }
     ensures { λ r. ⌜ now (nodes .exit)
@@ -158,7 +159,7 @@ pub fn make(
     counts: Counts,
     nodes: &mut [u32],
     versions: &mut [u32],
-) -> Turned
+) -> Transition
     requires { ⌜ Ready (now nodes) (counts .nodes) c ⌝ }
     requires { ⌜ Lent (now nodes) (now versions) counts ⌝ }
     ensures { λ r. ⌜ leaves r (now (nodes .exit)) (now (versions .exit))
@@ -171,13 +172,13 @@ pub fn make(
         return keep(c, Answer::VersionsFull, counts);
     }
     if State::TOP < call.top {
-        return Turned {
+        return Transition {
             mv: Move::Refuse,
             counts,
         };
     }
     let more = add_node(call, c, counts, nodes, versions);
-    Turned {
+    Transition {
         mv: commit(c, counts.nodes + 1, Answer::New),
         counts: more,
     }

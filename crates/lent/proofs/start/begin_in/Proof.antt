@@ -7,8 +7,7 @@ use borrow.Author.Needs.{needs}
 use borrow.Rule.Slice.PartMut.{putMid}
 use Rattle.model.specs.Calls.{begun}
 use Rattle.process.specs.ProcessWords.{sizes, processWords}
-use Rattle.layout.specs.StateWords.{stateFrom}
-use Rattle.layout.proofs.Laws.{putEvent}
+use Rattle.layout.specs.StateWords.{stateFrom, putEvent}
 use Rattle.apply.proofs.Left.{put-sets}
 use Rattle.lent.proofs.start.begin_in.Statement.{statement}
 use Rattle.lent.proofs.start.begin_in.Tie as tie

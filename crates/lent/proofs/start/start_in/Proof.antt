@@ -5,6 +5,7 @@ use mathlib.Core.Path.{_≡_, refl, sym, _∙_}
 use native.Mathlib.Omega.{arith}
 use lib.ListN.{length}
 use borrow.Author.Needs.{needs}
+use Rattle.calls.proofs.Places.{slot-below, slot-own}
 use borrow.Author.Tests.{not-true, not-false}
 use Rattle.model.specs.declared.types.Call.{Call}
 use Rattle.model.specs.Calls.{startPermit}
@@ -38,7 +39,7 @@ permit-is c =
     c .start-permit .ensures _
     (record {
       same = header-at (a .words .now) 0 (state-at (a .words .now) 0 (known (c .before .before .before .before .before .before)));
-      found = λ h. kind-at (a .words .now) (a .process) _ (c .before .before .before .before .before .slot .ensures .1 h) h ∙ sym (c .before .before .before .kind-of .ensures);
+      found = λ h. kind-at (a .words .now) (a .process) _ (slot-own _ _ (c .before .before .before .before .before .slot .ensures) h) h ∙ sym (c .before .before .before .kind-of .ensures);
     })
 
 may : (c : tie.After-enum-told) → let a = start (c .before .before) .args in
@@ -71,7 +72,7 @@ mul-kind-of : tie.Need-mul-kind-of
 mul-kind-of c = search needs
 
 slice-read-kind-of : tie.Need-slice-read-kind-of
-slice-read-kind-of c = let l = long (c .before .before) in let f = c .before .slot .ensures .0 in search needs
+slice-read-kind-of c = let l = long (c .before .before) in let f = slot-below _ _ (c .before .slot .ensures) in search needs
 
 kind-of-requires : tie.Need-kind-of-requires
 kind-of-requires c κs = search needs
@@ -105,7 +106,7 @@ add-tick c =
 
 begin-in-requires : tie.Need-begin-in-requires
 begin-in-requires c κs =
-    let f = c .before .before .before .before .before .before .before .before .before .slot .ensures .0 in
+    let f = slot-below _ _ (c .before .before .before .before .before .before .before .before .before .slot .ensures) in
     (long (c .before .before .before .before .before .before .before .before .before .before), omega (arith, f))
 
 same-length-2 : tie.Need-same-length-2
@@ -123,7 +124,7 @@ returns-3 c =
     let e = c .before .before .before .before .before in
     let s = start (e .before .before) in
     start-granted _ _ _ (λ t. call s t) (known (c .before .before .before .before .before .before .before .before .before .before .before .before .before)) _ _ _ (sym (permit-is (e .before .before)) ∙ e .enum-told .given .1)
-    (events-at (s .args .words .now)) (c .before .before .before .before .before .before .before .before .before .before .before .before .slot .ensures .1 (few e)) (few e)
+    (events-at (s .args .words .now)) (slot-own _ _ (c .before .before .before .before .before .before .before .before .before .before .before .before .slot .ensures) (few e)) (few e)
     (λ t. refl) (c .before .before .begin-in .ensures)
 
 pub start-in-spec : {M : Type 1} → statement M

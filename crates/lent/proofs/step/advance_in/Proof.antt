@@ -5,7 +5,7 @@ use mathlib.Core.Path.{_≡_, refl, sym, ap, subst, _∙_}
 use native.Mathlib.Omega.{arith}
 use lib.ListN.{length, getD}
 use Rattle.model.specs.Layout.{topLevel}
-use Rattle.model.specs.Phases.{turnOf, refuses}
+use Rattle.model.specs.Phases.{transitionOf, refuses}
 use Rattle.model.specs.Calls.{storeOf}
 use Rattle.tables.specs.Room.{memory}
 use Rattle.transition.proofs.Laws.{level-fits}
@@ -54,23 +54,23 @@ add-tick c =
 counts-in-requires : tie.Need-counts-in-requires
 counts-in-requires c κs = long (c .before .before .before .before .before .before)
 
-mul-turn : tie.Need-mul-turn
-mul-turn c = search needs
+mul-transition : tie.Need-mul-transition
+mul-transition c = search needs
 
-sub-turn : tie.Need-sub-turn
-sub-turn c = search needs
+sub-transition : tie.Need-sub-transition
+sub-transition c = search needs
 
-part-turn-start : tie.Need-part-turn-start
-part-turn-start c = search needs
+part-transition-start : tie.Need-part-transition-start
+part-transition-start c = search needs
 
-part-turn-end : tie.Need-part-turn-end
-part-turn-end c = let l = long (c .before .before .before .before .before .before .before .before) in let f = few (c .before .before .before .before .before .before .before .before) in omega arith
+part-transition-end : tie.Need-part-transition-end
+part-transition-end c = let l = long (c .before .before .before .before .before .before .before .before) in let f = few (c .before .before .before .before .before .before .before .before) in omega arith
 
-add-turn : tie.Need-add-turn
-add-turn c = let f = few (c .before .before .before .before .before .before .before .before .before) in omega arith
+add-transition : tie.Need-add-transition
+add-transition c = let f = few (c .before .before .before .before .before .before .before .before .before) in omega arith
 
-turn-requires : tie.Need-turn-requires
-turn-requires c κs =
+transition-requires : tie.Need-transition-requires
+transition-requires c κs =
     let s = c .before .before .before .before .before .before .before .before .before .before .before in
     let l = long s in (
       part-long (s .args .words .now) (startOf (s .args .process)) (omega (arith, few s)),
@@ -88,7 +88,7 @@ leave-requires c κs =
           part-facts (s .args .words .now) (s .args .process) (known s) .1,
           (
             λ h. subst (λ r. processFrom r .cursor .level ≤ topLevel) (part-is (s .args .words .now) at)
-                (level-fits _ _ _ _ (sym (ap (λ v. refuses (v .move)) (c .before .before .before .before .before .before .before .turn .ensures)) ∙ h)),
+                (level-fits _ _ _ _ (sym (ap (λ v. refuses (v .move)) (c .before .before .before .before .before .before .before .transition .ensures)) ∙ h)),
             may s .tally,
           ),
         ),
@@ -110,11 +110,11 @@ same-length-4 c = search needs
 returns : tie.Need-returns
 returns c =
     let s = c .before .before .before .before .before .before .before .before .before .before .before .before .before .before .before .before .before .before .before .before .before .before .before .before in
-    let t = c .before .before .before .before .before .before .before .before .before .before .before .before .turn in
+    let t = c .before .before .before .before .before .before .before .before .before .before .before .before .transition in
     let n = c .before .before .before .before .before .before .before .before .before .before .before .before .before .before .before .before .before .counts-in in
     let w = s .args .words .now in
     step-left w _ _ _ _ (known s) _ _ _ _ (events-at w) (n .ensures) (passed _ _ _ _ _ (s .pre) .1) (few s)
-    (t .ensures ∙ ap (λ r. turnOf (s .args .process + 1) (getD w 4 0 + 1) (processFrom r) (memory (s .args .nodes .now) (s .args .versions .now) (n .result)))
+    (t .ensures ∙ ap (λ r. transitionOf (s .args .process + 1) (getD w 4 0 + 1) (processFrom r) (memory (s .args .nodes .now) (s .args .versions .now) (n .result)))
     (part-is w (startOf (s .args .process)))) _ (c .before .before .before .before .leave .ensures)
 
 pub advance-in-spec : {M : Type 1} → statement M
@@ -127,12 +127,12 @@ advance-in-spec =
     slice-read-tick
     add-tick
     counts-in-requires
-    mul-turn
-    sub-turn
-    part-turn-start
-    part-turn-end
-    add-turn
-    turn-requires
+    mul-transition
+    sub-transition
+    part-transition-start
+    part-transition-end
+    add-transition
+    transition-requires
     leave-requires
     same-length
     same-length-2

@@ -2,9 +2,9 @@
 use mathlib.Core.Path.{_≡_, sym, ap, _∙_}
 use lib.ListN.{length}
 use borrow.Author.Needs.{needs}
-use Rattle.model.specs.Phases.{turnOf, refuses}
+use Rattle.model.specs.Phases.{transitionOf, refuses}
 use Rattle.tables.specs.Room.{memory}
-use Rattle.phases.specs.Turn.{leaves}
+use Rattle.phases.specs.Ready.{leaves}
 use Rattle.process.specs.ProcessWords.{sizes, processFrom}
 use Rattle.process.proofs.RoundTrip.{process-from, process-short}
 use Rattle.calls.specs.Advance.{advanceOf, advanceBy}
@@ -13,30 +13,30 @@ use Rattle.transition.proofs.Laws.{level-fits}
 use Rattle.store.proofs.advance.advance.Statement.{statement}
 use Rattle.store.proofs.advance.advance.Tie as tie
 
-abbrev start : tie.After-turn → tie.Start
+abbrev start : tie.After-transition → tie.Start
 start c = c .before .before .before .before .before .before .before .before
 
 -- the turn of the process in its words is that of the process
-turned : (c : tie.After-turn) → let a = start c .args in
-    leaves (c .turn .result) (c .turn .last .1 .1 .1 .1 .0) (c .turn .last .1 .1 .1 .1 .1 .0)
-    ≡ turnOf (a .holder) (a .tick) (a .p) (memory (a .nodes .now) (a .versions .now) (a .counts))
+turned : (c : tie.After-transition) → let a = start c .args in
+    leaves (c .transition .result) (c .transition .last .1 .1 .1 .1 .0) (c .transition .last .1 .1 .1 .1 .1 .0)
+    ≡ transitionOf (a .holder) (a .tick) (a .p) (memory (a .nodes .now) (a .versions .now) (a .counts))
 turned c =
     let a = start c .args in
     let w = c .before .before .before .before .words-of in
     let long : length (w .result) ≡ sizes .process = search needs in
     let six = process-short (a .p) (sym (ap length (w .ensures)) ∙ long) in
-    c .turn .ensures
-    ∙ ap (λ p. turnOf (a .holder) (a .tick) p (memory (a .nodes .now) (a .versions .now) (a .counts)))
+    c .transition .ensures
+    ∙ ap (λ p. transitionOf (a .holder) (a .tick) p (memory (a .nodes .now) (a .versions .now) (a .counts)))
     (ap processFrom (w .ensures) ∙ process-from (a .p) six)
 
 words-of-requires : tie.Need-words-of-requires
 words-of-requires c κs = search needs
 
-slice-aggregate-turn : tie.Need-slice-aggregate-turn
-slice-aggregate-turn c = search needs
+slice-aggregate-transition : tie.Need-slice-aggregate-transition
+slice-aggregate-transition c = search needs
 
-turn-requires : tie.Need-turn-requires
-turn-requires c κs = search needs
+transition-requires : tie.Need-transition-requires
+transition-requires c κs = search needs
 
 is-refusal-requires : tie.Need-is-refusal-requires
 is-refusal-requires c κs = search needs
@@ -52,7 +52,7 @@ unfolding advanceOf
 returns c =
     let t = c .before .before .before .before .before .before .before .before in
     let a = start t .args in
-    refused-advance (a .tick) (a .p) (a .tally .now) (t .turn .result .mv) _
+    refused-advance (a .tick) (a .p) (a .tally .now) (t .transition .result .mv) _
     (sym (c .before .is-refusal .ensures) ∙ c .if1 .taken)
     ∙ ap (advanceBy (a .tick) (a .p) (a .tally .now)) (turned t)
 
@@ -83,7 +83,7 @@ unfolding advanceOf
 returns-2 c =
     let t = c .before .before .before .before .before .before .before .before .before .before .before .before .before .before in
     let a = start t .args in
-    moved-advance (a .tick) (a .p) (a .tally .now) (t .turn .result .mv) _ _ _ _
+    moved-advance (a .tick) (a .p) (a .tally .now) (t .transition .result .mv) _ _ _ _
     (sym (c .before .before .before .before .before .before .before .is-refusal .ensures) ∙ c .before .before .before .before .before .before .if1 .left) (c .before .outcome-of .ensures) (c .process-after .ensures)
     (c .before .before .before .before .count-end .ensures)
     ∙ ap (advanceBy (a .tick) (a .p) (a .tally .now)) (turned t)
@@ -93,8 +93,8 @@ advance-spec =
     tie.close
     (tie.spec
     words-of-requires
-    slice-aggregate-turn
-    turn-requires
+    slice-aggregate-transition
+    transition-requires
     is-refusal-requires
     same-length
     same-length-2

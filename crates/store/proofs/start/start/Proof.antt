@@ -4,6 +4,7 @@ use Rattle.refusals.proofs.Laws.{MayStart, may-start}
 use Rattle.model.specs.Calls.{startPermit, startBy}
 use mathlib.Core.Path.{_≡_, sym}
 use borrow.Author.Needs.{needs}
+use Rattle.calls.proofs.Places.{slot-below, slot-own}
 use Rattle.store.proofs.start.start.Statement.{statement}
 use Rattle.store.proofs.start.start.Tie as tie
 
@@ -14,7 +15,7 @@ permit-is c =
     c .start-permit .ensures _
     (record {
       same = sym (c .before .before .header-of .ensures);
-      found = λ h. simp (c .before .before .before .before .before .slot .ensures .1 h);
+      found = λ h. simp (slot-own _ _ (c .before .before .before .before .before .slot .ensures) h);
     })
 
 may : (c : tie.After-enum-told) → let a = c .before .before .before .before .before .before .before .before .before .before .args in
@@ -65,7 +66,7 @@ returns-2 : tie.Need-returns-2
 unfolding startBy
 returns-2 c =
     let f = may (c .before) in
-    let i = c .before .before .before .before .before .before .before .before .slot .ensures .1 (omega arith) in
+    let i = slot-own _ _ (c .before .before .before .before .before .before .before .before .slot .ensures) (omega arith) in
     simp (c .begin .ensures, i, ← permit-is (c .before .before .before), c .before .enum-told .given .1)
 
 pub start-spec : {M : Type 1} → statement M

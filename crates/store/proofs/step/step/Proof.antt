@@ -8,6 +8,7 @@ use Rattle.store.specs.Attempt.{advanced}
 use Rattle.store.proofs.Laws.{attempt-stays, attempt-passed, attempt-moves}
 use Rattle.calls.proofs.Laws.{lent-may-step}
 use borrow.Author.Needs.{needs}
+use Rattle.calls.proofs.Places.{slot-below, slot-own}
 use Rattle.store.proofs.step.step.Statement.{statement}
 use Rattle.store.proofs.step.step.Tie as tie
 
@@ -19,7 +20,7 @@ permit-is c =
     c .step-permit .ensures _
     (record {
       same = sym (c .before .before .before .before .before .header-of .ensures);
-      found = λ h. simp (c .before .before .before .before .before .before .before .before .slot .ensures .1 h);
+      found = λ h. simp (slot-own _ _ (c .before .before .before .before .before .before .before .before .slot .ensures) h);
     })
 
 slot-requires : tie.Need-slot-requires
@@ -52,14 +53,14 @@ attempt-requires c κs g =
     }
 
 mul-after : tie.Need-mul-after
-mul-after c = let f = c .before .before .before .before .before .before .before .before .before .before .before .before .before .before .before .before .before .before .before .before .before .before .before .slot .ensures .0 in omega arith
+mul-after c = let f = slot-below _ _ (c .before .before .before .before .before .before .before .before .before .before .before .before .before .before .before .before .before .before .before .before .before .before .before .slot .ensures) in omega arith
 
 element-set-from-after : tie.Need-element-set-from-after
-element-set-from-after c = c .before .before .before .before .before .before .before .before .before .before .before .before .before .before .before .before .before .before .before .before .before .before .before .slot .ensures .0
+element-set-from-after c = slot-below _ _ (c .before .before .before .before .before .before .before .before .before .before .before .before .before .before .before .before .before .before .before .before .before .before .before .slot .ensures)
 
 add-s : tie.Need-add-s
 add-s c =
-    let g = attempt-passed _ _ _ (c .before .before .before .before .before .before .before .before .before .before .before .before .before .before .before .before .before .before .before .before .before .before .before .slot .ensures .1) _ (permit-is (c .before .before .before .before .before .before .before .before .before .before .before .before .before .before .before)) (advanced (c .before .before .before .before .before .before .before .before .before .before .attempt .result) _ _ _)
+    let g = attempt-passed _ _ _ (slot-own _ _ (c .before .before .before .before .before .before .before .before .before .before .before .before .before .before .before .before .before .before .before .before .before .before .before .slot .ensures)) _ (permit-is (c .before .before .before .before .before .before .before .before .before .before .before .before .before .before .before)) (advanced (c .before .before .before .before .before .before .before .before .before .before .attempt .result) _ _ _)
     (c .before .before .before .before .before .before .before .before .before .before .attempt .ensures) (not-true _ (c .before .before .if1 .taken)) in
     let f = may-step _ _ (permit-is (c .before .before .before .before .before .before .before .before .before .before .before .before .before .before .before)) g .start in
     let l = f .lawful .limit in
@@ -76,7 +77,7 @@ same-length-3 c = search needs
 
 returns : tie.Need-returns
 returns c =
-    attempt-moves _ _ _ (c .before .before .before .before .before .before .before .before .before .before .before .before .before .before .before .before .before .before .before .before .before .before .before .slot .ensures .1) _ (permit-is (c .before .before .before .before .before .before .before .before .before .before .before .before .before .before .before)) (advanced (c .before .before .before .before .before .before .before .before .before .before .attempt .result) _ _ _)
+    attempt-moves _ _ _ (slot-own _ _ (c .before .before .before .before .before .before .before .before .before .before .before .before .before .before .before .before .before .before .before .before .before .before .before .slot .ensures)) _ (permit-is (c .before .before .before .before .before .before .before .before .before .before .before .before .before .before .before)) (advanced (c .before .before .before .before .before .before .before .before .before .before .attempt .result) _ _ _)
     (c .before .before .before .before .before .before .before .before .before .before .attempt .ensures) (not-true _ (c .before .before .if1 .taken))
 
 same-length-4 : tie.Need-same-length-4
@@ -90,7 +91,7 @@ same-length-6 c = search needs
 
 returns-2 : tie.Need-returns-2
 returns-2 c =
-    attempt-stays _ _ _ (c .before .before .before .before .before .before .before .before .before .before .before .before .before .before .before .before .before .before .before .before .before .slot .ensures .1) _ (permit-is (c .before .before .before .before .before .before .before .before .before .before .before .before .before)) (advanced (c .before .before .before .before .before .before .before .before .attempt .result) _ _ _)
+    attempt-stays _ _ _ (slot-own _ _ (c .before .before .before .before .before .before .before .before .before .before .before .before .before .before .before .before .before .before .before .before .before .slot .ensures)) _ (permit-is (c .before .before .before .before .before .before .before .before .before .before .before .before .before)) (advanced (c .before .before .before .before .before .before .before .before .attempt .result) _ _ _)
     (c .before .before .before .before .before .before .before .before .attempt .ensures) (not-false _ (c .if1 .left))
 
 pub step-spec : {M : Type 1} → statement M

@@ -5,7 +5,7 @@ use Rattle.phases.specs.Types.{Cursor}
 use Rattle.model.specs.Layout.{topLevel}
 use Rattle.model.specs.Phases.{Moved}
 use Rattle.tables.specs.Room.{NodeRoom, memory}
-use Rattle.phases.specs.declared.types.Turned.{Turned}
+use Rattle.phases.specs.declared.types.Transition.{Transition}
 
 -- the cursor's link and lock stand in the table, and so does every node in use
 pub record Ready (nodes : List ℕ) (used : ℕ) (c : Cursor) : Type 0 where
@@ -14,5 +14,5 @@ pub record Ready (nodes : List ℕ) (used : ℕ) (c : Cursor) : Type 0 where
   pub level : c .level ≤ topLevel
 
 -- the move and the memory that a step leaves
-abbrev pub leaves : Turned → (nodes versions : List ℕ) → Moved
+abbrev pub leaves : Transition → (nodes versions : List ℕ) → Moved
 leaves t nodes versions = record { move = t .mv; memory = memory nodes versions (t .counts) }

@@ -1,12 +1,12 @@
 -- The test of refusal 11 gives what the phases ask for.
 use mathlib.Core.Path.{_≡_, sym, _∙_}
 use borrow.Author.Needs.{needs}
-use Rattle.model.specs.Phases.{lawfulProcess, turnOf}
+use Rattle.model.specs.Phases.{lawfulProcess, transitionOf}
 use Rattle.tables.specs.Room.{memory}
 use Rattle.process.specs.ProcessWords.{processFrom}
 use Rattle.transition.proofs.Laws.{lawful-facts, lawful-by}
-use Rattle.transition.proofs.turn.turn.Statement.{statement}
-use Rattle.transition.proofs.turn.turn.Tie as tie
+use Rattle.transition.proofs.step.transition.Statement.{statement}
+use Rattle.transition.proofs.step.transition.Tie as tie
 
 lawful-is : (c : tie.After-lawful) → let a = c .before .before .before .before .before .before .before .args in
     c .lawful .result ≡ lawfulProcess (processFrom (a .w .now)) (memory (a .nodes .now) (a .versions .now) (a .counts))
@@ -28,8 +28,8 @@ effect-in-requires c κs = search needs
 lawful-requires : tie.Need-lawful-requires
 lawful-requires c κs = search needs
 
-run-requires : tie.Need-run-requires
-run-requires c κs =
+by-phase-requires : tie.Need-by-phase-requires
+by-phase-requires c κs =
     let l = c .before .before .before in
     let s = c .before .before .before .before .before .before .before .before .before .before in
     let f = lawful-facts _ _ (sym (lawful-is l) ∙ c .before .before .if1 .taken) in
@@ -42,22 +42,22 @@ same-length-2 : tie.Need-same-length-2
 same-length-2 c = search needs
 
 returns : tie.Need-returns
-unfolding turnOf
-returns c = simp (c .before .before .before .before .run .ensures, ← lawful-is (c .before .before .before .before .before .before .before .before), c .before .before .before .before .before .before .before .if1 .taken)
+unfolding transitionOf
+returns c = simp (c .before .before .before .before .by-phase .ensures, ← lawful-is (c .before .before .before .before .before .before .before .before), c .before .before .before .before .before .before .before .if1 .taken)
 
 returns-2 : tie.Need-returns-2
-unfolding turnOf
+unfolding transitionOf
 returns-2 c = simp (← lawful-is (c .before), c .if1 .left)
 
-pub turn-spec : {M : Type 1} → statement M
-turn-spec =
+pub transition-spec : {M : Type 1} → statement M
+transition-spec =
     tie.close
     (tie.spec
     call-in-requires
     cursor-in-requires
     effect-in-requires
     lawful-requires
-    run-requires
+    by-phase-requires
     same-length
     same-length-2
     returns

@@ -1,9 +1,9 @@
 // The core: one step of one call, in the nineteen words of its process. Each phase reads what it needs of them.
 ghost use mathlib.Core.Path.{_≡_};
 ghost use lib.ListN.{length};
-ghost use Rattle.model.specs.Phases.{phaseOf, turnOf};
+ghost use Rattle.model.specs.Phases.{phaseOf, transitionOf};
 ghost use Rattle.tables.specs.Room.{Lent, memory};
-ghost use Rattle.phases.specs.Turn.{Ready, leaves};
+ghost use Rattle.phases.specs.Ready.{Ready, leaves};
 ghost use Rattle.process.specs.ProcessWords.{sizes, processFrom};
 use crate::lawful::lawful;
 use model::types::Counts;
@@ -15,7 +15,7 @@ use phases::lock::release;
 use phases::search::read;
 use phases::search::seek;
 use phases::search::walk;
-use phases::types::Turned;
+use phases::types::Transition;
 use process::words::call_in;
 use process::words::cursor_in;
 use process::words::effect_in;
@@ -25,21 +25,21 @@ use writes::put::make;
 use writes::put::update;
 
 // A move that leaves the counts in use.
-fn with(mv: Move, counts: Counts) -> Turned
+fn with(mv: Move, counts: Counts) -> Transition
     ensures { λ r. ⌜ (r .mv ≡ mv) × (r .counts ≡ counts) ⌝ }
 {
-    Turned { mv, counts }
+    Transition { mv, counts }
 }
 
 // The step of the call's phase.
-fn run(
+fn by_phase(
     w: &[u32],
     counts: Counts,
     holder: u32,
     tick: u32,
     nodes: &mut [u32],
     versions: &mut [u32],
-) -> Turned
+) -> Transition
     requires { ⌜ length (now w) ≡ sizes .process ⌝ }
     requires { ⌜ Ready (now nodes) (counts .nodes) (processFrom (now w) .cursor) ⌝ }
     requires { ⌜ Lent (now nodes) (now versions) counts ⌝ }
@@ -72,26 +72,26 @@ fn run(
 }
 
 // One step of a call: `holder` is the process's number plus 1, `tick` that of this event.
-pub fn turn(
+pub fn transition(
     w: &[u32],
     counts: Counts,
     holder: u32,
     tick: u32,
     nodes: &mut [u32],
     versions: &mut [u32],
-) -> Turned
+) -> Transition
     requires { ⌜ length (now w) ≡ sizes .process ⌝ }
     requires { ⌜ Lent (now nodes) (now versions) counts ⌝ }
     ensures { λ r. ⌜ leaves r (now (nodes .exit)) (now (versions .exit))
-        ≡ turnOf holder tick (processFrom (now (w .entry))) (memory (now (nodes .entry)) (now (versions .entry)) counts) ⌝ }
+        ≡ transitionOf holder tick (processFrom (now (w .entry))) (memory (now (nodes .entry)) (now (versions .entry)) counts) ⌝ }
 {
     let call = call_in(w);
     let c = cursor_in(w);
     let e = effect_in(w);
     if lawful(call, c, e, counts.nodes) {
-        run(w, counts, holder, tick, nodes, versions)
+        by_phase(w, counts, holder, tick, nodes, versions)
     } else {
-        Turned {
+        Transition {
             mv: Move::Refuse,
             counts,
         }

@@ -4,8 +4,8 @@ use borrow.Author.Needs.{needs}
 use Rattle.model.specs.Phases.{phaseOf}
 use Rattle.process.specs.ProcessWords.{processFrom}
 use Rattle.transition.proofs.Laws.{phase-by}
-use Rattle.transition.proofs.turn.run.Statement.{statement}
-use Rattle.transition.proofs.turn.run.Tie as tie
+use Rattle.transition.proofs.step.by_phase.Statement.{statement}
+use Rattle.transition.proofs.step.by_phase.Tie as tie
 
 call-in-requires : tie.Need-call-in-requires
 call-in-requires c κs = search needs
@@ -229,8 +229,8 @@ returns-9 c =
     phase-by q (c .before .before .before .before .before .before .before .before .before .before .call-in .result) (c .before .before .before .before .before .before .before .before .before .cursor-in .result) (c .before .before .before .before .before .before .effect-in .result) (c .before .before .before .before .before .preds-in .result) (a .holder) (a .tick) _ _ (c .before .before .before .before .before .before .before .before .before .before .call-in .ensures) (c .before .before .before .before .before .before .before .before .before .cursor-in .ensures) (c .before .before .before .before .before .before .effect-in .ensures) (c .before .before .before .before .before .preds-in .ensures)
     (simp (c .with7 .ensures .0, c .with7 .ensures .1, c .before .before .before .before .before .before .before .enum-told9 .given .1) (c .before .before .before .release .ensures (a .versions .now) (a .counts .versions)))
 
-pub run-spec : {M : Type 1} → statement M
-run-spec =
+pub by-phase-spec : {M : Type 1} → statement M
+by-phase-spec =
     tie.close
     (tie.spec
     call-in-requires

@@ -8,7 +8,7 @@ use lib.Dec.{T, eqb, leb, le→leb}
 use Rattle.linearizability.specs.Types.{Kind, Idle, Put, Get, Phase, Walk, Read, Seek, Lock, Check, Update, Make, Link, Release, Role, Searching, Class, Inserted, OtherPut, Hit, Miss, None, Process}
 use Rattle.model.specs.Layout.{Memory, topLevel}
 use Rattle.model.specs.Map.{Map}
-use Rattle.model.specs.Phases.{noEffect, lawfulEffect, lawfulAt, lawfulProcess, phaseOf, turnOf}
+use Rattle.model.specs.Phases.{noEffect, lawfulEffect, lawfulAt, lawfulProcess, phaseOf, transitionOf}
 use Rattle.model.specs.Roles.{isPut, roleOf, plays, putClass, classOf, fromPut}
 use Rattle.model.proofs.Tests.{if-by, is-true, T-absurd, eq→eqb}
 use Rattle.linearizability.proofs.Invariant.{Ghost, Nodes, Book, At, Stage, StageOf, Settled, Ok, Fits}
@@ -110,9 +110,9 @@ module _ (m : Memory) (g : Ghost) (i : ℕ) (pr : Process) (tick : ℕ) (b : Map
   phase-good Link tp ep nn w c = link-good m g i pr tick b N B w (c .0) (c .2) (c .4) (c .3) (c .1)
   phase-good Release tp ep nn w c = release-good m g i pr tick b N B w (c .1) (c .0) (c .2) (c .3)
 
-  pub turn-good : tick ≢ 0 → Fits m g i pr → pr .call .kind ≢ Idle → Result m g i pr tick b (turnOf (i + 1) tick pr m)
-  unfolding turnOf
-  turn-good tp f nn = if-by (Result m g i pr tick b) (lawfulProcess pr m)
+  pub transition-good : tick ≢ 0 → Fits m g i pr → pr .call .kind ≢ Idle → Result m g i pr tick b (transitionOf (i + 1) tick pr m)
+  unfolding transitionOf
+  transition-good tp f nn = if-by (Result m g i pr tick b) (lawfulProcess pr m)
       (λ t. subst (λ ph. Result m g i pr tick b (phaseOf ph (i + 1) tick pr m)) (sym (f .phase-is))
       (phase-good (f .phase) tp (f .phase-is) nn (f .role nn) (f .ok nn)))
       (λ t. absurd (T-absurd (lawfulProcess pr m) (lawful f nn) t))
