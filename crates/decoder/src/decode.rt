@@ -6,8 +6,8 @@ ghost use Rattle.decoder.specs.Commands.{openForm, putForm, getForm, ste
 ghost use Rattle.decoder.specs.Commands.{bigEndian, total, commandWith, formFrom, commandFrom};
 use crate::types::Command;
 use crate::types::Decoded;
-use model::halves::joined;
 use model::types::Key;
+use values::halves::joined;
 
 // The number that bytes make, the most significant first.
 fn big_endian(bytes: &[u8]) -> u32

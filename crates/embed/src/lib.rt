@@ -15,7 +15,6 @@ use lent::query::status_in;
 use lent::start::start_get_in;
 use lent::start::start_put_in;
 use lent::step::step_in;
-use model::bounds::within;
 use model::types::Key;
 use model::types::State;
 use process::types::Sizes;
@@ -25,6 +24,7 @@ use replies::told::tell_open;
 use replies::told::tell_start;
 use replies::told::tell_status;
 use replies::told::tell_step;
+use values::bounds::within;
 
 // The number of the layout, for a caller that compares its header with what it is linked with.
 #[no_mangle]

@@ -1,6 +1,2 @@
-// The types of the store, by value, their numbers and roles. Their meaning stands in specs/, what follows from it in proofs/.
-pub mod bounds;
-pub mod halves;
-pub mod numbers;
-pub mod roles;
+// The types of the store, by value. Their meaning stands in specs/, what follows from it in proofs/.
 pub mod types;

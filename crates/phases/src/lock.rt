@@ -8,8 +8,6 @@ ghost use Rattle.tables.specs.Room.{LevelRoom, memory, nodesIn};
 ghost use Rattle.phases.specs.Ready.{Ready};
 use crate::moves::go;
 use crate::moves::is_refusal;
-use model::roles::is_new;
-use model::roles::version_with;
 use model::types::Ahead;
 use model::types::Call;
 use model::types::Cursor;
@@ -21,6 +19,8 @@ use model::types::Version;
 use tables::nodes::ahead;
 use tables::nodes::lock_at;
 use tables::nodes::set_lock;
+use values::roles::is_new;
+use values::roles::version_with;
 
 // The lock phase.
 pub fn acquire(c: Cursor, holder: u32, nodes: &mut [u32]) -> Move

@@ -10,11 +10,11 @@ use crate::text::put_sentence;
 use crate::types::Format;
 use crate::types::Line;
 use crate::types::Sentence;
-use model::numbers::number_of;
 use model::types::Answer;
 use model::types::Finish;
 use model::types::Key;
 use model::types::Kind;
+use values::numbers::number_of;
 
 // How the line of a finished call begins.
 fn kind_format(kind: Kind) -> Format

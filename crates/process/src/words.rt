@@ -10,10 +10,6 @@ use crate::numbers::phase_number;
 use crate::numbers::phase_of;
 use crate::types::ProcessOffsets;
 use crate::types::Sizes;
-use model::halves::high_half;
-use model::halves::joined;
-use model::halves::low_half;
-use model::numbers::place_of;
 use model::types::Call;
 use model::types::Cursor;
 use model::types::Effect;
@@ -21,6 +17,10 @@ use model::types::Kind;
 use model::types::Phase;
 use model::types::Process;
 use model::types::State;
+use values::halves::high_half;
+use values::halves::joined;
+use values::halves::low_half;
+use values::numbers::place_of;
 
 pub fn call_in(w: &[u32]) -> Call
     requires { ⌜ length (now w) ≡ sizes .process ⌝ }

@@ -2,12 +2,12 @@
 ghost use mathlib.Core.Path.{_≡_};
 ghost use Rattle.model.specs.Calls.{standing, statusOf};
 use layout::head::header_of;
-use model::roles::is_idle;
 use model::types::Permit;
 use model::types::Process;
 use model::types::State;
 use model::types::Status;
 use refusals::permit::status_permit;
+use values::roles::is_idle;
 
 // A call shows what it is and its ticks, and nothing of where it stands: that is no answer yet.
 fn standing(p: Process) -> Status

@@ -10,9 +10,9 @@ ghost use Rattle.model.specs.State.{lawfulKey, lawfulLength, lawfulNodes, lawfu
 ghost use Rattle.layout.specs.Head.{headerWords, headerOf};
 use layout::head::HeaderOffsets;
 use layout::head::OPEN;
-use model::bounds::within;
 use model::types::Key;
 use model::types::State;
+use values::bounds::within;
 
 // Refusal 6.
 pub fn lawful_key(key: Key) -> bool

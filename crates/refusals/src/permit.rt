@@ -18,13 +18,13 @@ use crate::lawful::lawful_store;
 use crate::lawful::lawful_versions;
 use layout::head::HeaderOffsets;
 use layout::head::header_of;
-use model::bounds::within;
-use model::roles::is_idle;
 use model::types::Key;
 use model::types::Kind;
 use model::types::Permit;
 use model::types::Refusal;
 use model::types::State;
+use values::bounds::within;
+use values::roles::is_idle;
 
 // The refusal already given, or this one if its condition is met.
 fn or_if(given: Permit, met: bool, refusal: Refusal) -> Permit

@@ -3,8 +3,6 @@
 ghost use mathlib.Core.Path.{_≡_};
 ghost use mathlib.Core.List.{[], _∷_};
 ghost use Rattle.replies.specs.Told.{reply, openTold, startTold, finishWords, stepTold, lookTold, inspectTold, statusTold};
-use model::numbers::number_of;
-use model::numbers::place_of;
 use model::types::Finish;
 use model::types::Inspecting;
 use model::types::Looking;
@@ -13,6 +11,8 @@ use model::types::Starting;
 use model::types::Status;
 use model::types::Stepping;
 use process::numbers::kind_number;
+use values::numbers::number_of;
+use values::numbers::place_of;
 
 // An opening has no answer beside its number.
 pub fn tell_open(outcome: Opening) -> u32

@@ -7,13 +7,13 @@ ghost use lib.ListN.{length};
 ghost use Rattle.model.specs.Layout.{nodeWords, capacity, word, withWord, key, newest, top, next, lock, withNewest, withNext, withLock, nodeRecord, withNode};
 ghost use Rattle.model.specs.Phases.{ahead};
 ghost use Rattle.tables.specs.Room.{NodeRoom, LevelRoom, nodesIn};
-use model::halves::high_half;
-use model::halves::joined;
-use model::halves::low_half;
 use model::types::Ahead;
 use model::types::Key;
 use model::types::NodeOffsets;
 use model::types::State;
+use values::halves::high_half;
+use values::halves::joined;
+use values::halves::low_half;
 
 // `State::NODE_WORDS`, to reckon an index with.
 const NODE_WORDS: usize = State::NODE_WORDS as usize;

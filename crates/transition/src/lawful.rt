@@ -7,16 +7,16 @@ ghost use Rattle.model.specs.Phases.{noEffect, lawfulEffect, lawfulAt, lawfulPr
 ghost use Rattle.model.specs.Roles.{fromPut};
 ghost use Rattle.tables.specs.Room.{nodesIn};
 ghost use Rattle.transition.specs.Process.{process};
-use model::roles::from_put;
-use model::roles::is_put;
-use model::roles::plays;
-use model::roles::role_of;
 use model::types::Call;
 use model::types::Cursor;
 use model::types::Effect;
 use model::types::Kind;
 use model::types::Role;
 use model::types::State;
+use values::roles::from_put;
+use values::roles::is_put;
+use values::roles::plays;
+use values::roles::role_of;
 
 // Where a put has taken effect, its answer is a put's.
 fn suits_put(e: Effect) -> bool

@@ -1,8 +1,8 @@
 // Document 01's number of each refusal, and the place of each answer in the tally.
 ghost use mathlib.Core.Path.{_≡_};
 ghost use Rattle.model.specs.Numbers.{numberOf, placeOf};
-use crate::types::Answer;
-use crate::types::Refusal;
+use model::types::Answer;
+use model::types::Refusal;
 
 pub fn number_of(refusal: Refusal) -> u32
     ensures { λ r. ⌜ r ≡ numberOf refusal ⌝ }

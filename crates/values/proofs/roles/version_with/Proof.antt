@@ -1,7 +1,7 @@
 -- Each arm of the match gives the class's case.
 use borrow.Author.Needs.{needs}
-use Rattle.model.proofs.roles.version_with.Statement.{statement}
-use Rattle.model.proofs.roles.version_with.Tie as tie
+use Rattle.values.proofs.roles.version_with.Statement.{statement}
+use Rattle.values.proofs.roles.version_with.Tie as tie
 
 class-of-requires : tie.Need-class-of-requires
 class-of-requires c κs = search needs

@@ -1,8 +1,8 @@
 -- The sum of the halves fits a key, and is the definition's.
 use borrow.Author.Needs.{needs}
 use Rattle.model.specs.Layout.{joined}
-use Rattle.model.proofs.halves.joined.Statement.{statement}
-use Rattle.model.proofs.halves.joined.Tie as tie
+use Rattle.values.proofs.halves.joined.Statement.{statement}
+use Rattle.values.proofs.halves.joined.Tie as tie
 
 mul-result : tie.Need-mul-result
 mul-result c = search needs

@@ -1,13 +1,13 @@
-// What differs by kind and by answer: the code of specs/Roles.antt. A new kind, phase or answer gets its row here.
+// What differs by kind and by answer: the code of model/specs/Roles.antt. A new kind, phase or answer gets its row here.
 ghost use mathlib.Core.Path.{_≡_};
 ghost use Rattle.model.specs.Numbers.{noVersion};
 ghost use Rattle.model.specs.Roles.{isIdle, isPut, isGet, roleOf, plays, classOf, fromPut, isNew, versionWith};
-use crate::types::Answer;
-use crate::types::Class;
-use crate::types::Kind;
-use crate::types::Phase;
-use crate::types::Role;
-use crate::types::Version;
+use model::types::Answer;
+use model::types::Class;
+use model::types::Kind;
+use model::types::Phase;
+use model::types::Role;
+use model::types::Version;
 
 pub fn is_idle(kind: Kind) -> bool
     ensures { λ r. ⌜ r ≡ isIdle kind ⌝ }

@@ -1,7 +1,7 @@
 // A key of 64 bits in two words of 32: all arithmetic on its halves.
 ghost use mathlib.Core.Path.{_≡_};
 ghost use Rattle.model.specs.Layout.{lowHalf, highHalf, joined};
-use crate::types::Key;
+use model::types::Key;
 
 // How many numbers a word can hold.
 const WORD_SIZE: Key = 4294967296;
