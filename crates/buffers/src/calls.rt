@@ -20,7 +20,7 @@ use queries::look::look;
 use store::open::open;
 use store::start::start_get;
 use store::start::start_put;
-use store::step::step;
+use storestep::step::step;
 use tables::fresh::clear;
 
 // An opening is lent tables of the size that it asks for, not those that the state has: each open replaces the store, and

@@ -14,7 +14,7 @@ use lent::query::look_in;
 use lent::query::status_in;
 use lent::start::start_get_in;
 use lent::start::start_put_in;
-use lent::step::step_in;
+use lentstep::step::step_in;
 use model::types::Key;
 use model::types::State;
 use process::types::Sizes;

@@ -5,8 +5,7 @@ use Rattle.model.specs.declared.types.Call.{Call}
 use Rattle.model.specs.declared.types.OpenResult.{OpenResult}
 use Rattle.model.specs.declared.types.StartResult.{StartResult}
 use Rattle.model.specs.declared.types.State.{State}
-use Rattle.model.specs.declared.types.StepResult.{StepResult}
-use Rattle.model.specs.Calls.{Opened, startPermit, startBy, Stepped, storeOf}
+use Rattle.model.specs.Calls.{Opened, startPermit, startBy}
 
 -- an opening: outcome, state and both tables
 abbrev pub opened : OpenResult → (nodes versions : List ℕ) → Opened
@@ -20,7 +19,3 @@ timed c tick = record { kind = c .kind; key = c .key; value = c .value; timestam
 abbrev pub startWith : State → (nodes versions : List ℕ) → (process : ℕ) → (call : (tick : ℕ) → Call) → StartResult
 startWith s nodes versions i call =
     let c = call (s .events + 1) in startBy (startPermit s nodes versions i (c .key)) s i c
-
--- a step: outcome, state, both tables and the tally
-abbrev pub stepped : StepResult → (nodes versions tally : List ℕ) → Stepped
-stepped r nodes versions tally = record { outcome = r .outcome; store = storeOf (r .state) nodes versions tally }

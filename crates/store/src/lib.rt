@@ -1,7 +1,4 @@
-// The public calls that change the store: open, start and step. None asks anything of its arguments: what is unlawful is
-// refused, and a refusal changes nothing.
-mod advance;
+// Opening and starts of the store by value. None asks anything of its arguments: what is unlawful is refused, and a refusal
+// changes nothing.
 pub mod open;
 pub mod start;
-pub mod step;
-pub mod types;

@@ -11,7 +11,7 @@ use Rattle.model.specs.Calls.{stepPermit, Store, stepBy, stepOf}
 use Rattle.tables.specs.Room.{memory}
 use Rattle.refusals.proofs.Laws.{may-step}
 use Rattle.calls.specs.Advance.{Advance}
-use Rattle.store.specs.Attempt.{attemptOf}
+use Rattle.storestep.specs.Attempt.{attemptOf}
 use Rattle.calls.proofs.Laws.{stays, moves, step-stays, step-moves}
 
 -- denied or let pass

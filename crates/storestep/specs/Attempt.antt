@@ -1,4 +1,4 @@
--- A step that is denied or let pass, beside the state.
+-- A step that is denied or let pass, beside the state, and all that a step leaves.
 use Prim.Native.Nat.{ℕ, _+_, _<_}
 use mathlib.Core.Bool.{true}
 use mathlib.Core.List.{List}
@@ -8,10 +8,12 @@ use Rattle.model.specs.declared.types.Counts.{Counts}
 use Rattle.model.specs.declared.types.Permit.{Permit}
 use Rattle.model.specs.declared.types.Permit.the-variants.{Denied, Granted}
 use Rattle.model.specs.declared.types.Process.{Process}
+use Rattle.model.specs.declared.types.StepResult.{StepResult}
 use Rattle.model.specs.declared.types.Stepping.{Stepping}
 use Rattle.model.specs.Layout.{Memory, limits}
+use Rattle.model.specs.Calls.{Stepped, storeOf}
 use Rattle.tables.specs.Room.{Lent, memory}
-use Rattle.store.specs.declared.types.Advanced.{Advanced}
+use Rattle.storestep.specs.declared.types.Advanced.{Advanced}
 use Rattle.calls.specs.Advance.{Advance, advanceOf}
 
 -- a step that is denied leaves its process and the memory
@@ -40,3 +42,7 @@ advanced a nodes versions tally = record {
   memory = memory nodes versions (a .counts);
   tally = tally;
 }
+
+-- a step: outcome, state, both tables and the tally
+abbrev pub stepped : StepResult → (nodes versions tally : List ℕ) → Stepped
+stepped r nodes versions tally = record { outcome = r .outcome; store = storeOf (r .state) nodes versions tally }

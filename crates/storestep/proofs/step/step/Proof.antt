@@ -4,13 +4,13 @@ use native.Mathlib.Omega.{arith}
 use borrow.Author.Tests.{not-true, not-false}
 use Rattle.model.specs.Calls.{stepPermit, storeOf}
 use Rattle.refusals.proofs.Laws.{may-step}
-use Rattle.store.specs.Attempt.{advanced}
-use Rattle.store.proofs.Laws.{attempt-stays, attempt-passed, attempt-moves}
+use Rattle.storestep.specs.Attempt.{advanced}
+use Rattle.storestep.proofs.Laws.{attempt-stays, attempt-passed, attempt-moves}
 use Rattle.calls.proofs.Laws.{lent-may-step}
 use borrow.Author.Needs.{needs}
 use Rattle.calls.proofs.Places.{slot-below, slot-own}
-use Rattle.store.proofs.step.step.Statement.{statement}
-use Rattle.store.proofs.step.step.Tie as tie
+use Rattle.storestep.proofs.step.step.Statement.{statement}
+use Rattle.storestep.proofs.step.step.Tie as tie
 
 -- the permit is the definition's: the kind was read at the process's own place
 permit-is : (c : tie.After-step-permit)

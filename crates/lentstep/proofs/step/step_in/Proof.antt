@@ -2,10 +2,10 @@
 use mathlib.Core.Path.{sym, _∙_}
 use native.Mathlib.Omega.{arith}
 use borrow.Author.Tests.{not-true, not-false}
 use Rattle.lent.proofs.Laws.{unlawful, step-denied}
 use borrow.Author.Needs.{needs}
-use Rattle.lent.proofs.step.step_in.Statement.{statement}
-use Rattle.lent.proofs.step.step_in.Tie as tie
+use Rattle.lentstep.proofs.step.step_in.Statement.{statement}
+use Rattle.lentstep.proofs.step.step_in.Tie as tie
 
 step-past-requires : tie.Need-step-past-requires
 step-past-requires c κs = search needs

@@ -8,10 +8,10 @@ use Rattle.model.specs.Calls.{storeOf, stepPermit}
 use Rattle.refusals.proofs.Laws.{may-step}
 use Rattle.layout.specs.StateWords.{stateFrom, isStateAt}
 use Rattle.layout.proofs.Written.{part-facts, header-at}
 use Rattle.lent.proofs.Laws.{permit-unknown, permit-known, step-denied}
 use borrow.Author.Needs.{needs}
-use Rattle.lent.proofs.step.step_past.Statement.{statement}
-use Rattle.lent.proofs.step.step_past.Tie as tie
+use Rattle.lentstep.proofs.step.step_past.Statement.{statement}
+use Rattle.lentstep.proofs.step.step_past.Tie as tie
 
 known : (c : tie.Else1) → isStateAt (c .before .before .before .before .before .before .args .words .now) (c .before .before .before .before .before .before .args .process) ≡ true
 known c = sym (c .before .is-state-at .ensures) ∙ not-false _ (c .if1 .left)

@@ -10,8 +10,8 @@ use Rattle.process.proofs.RoundTrip.{process-from, process-short}
 use Rattle.calls.specs.Advance.{advanceOf, advanceBy}
 use Rattle.calls.proofs.Laws.{refused-advance, moved-advance}
 use Rattle.transition.proofs.Laws.{level-fits}
-use Rattle.store.proofs.advance.advance.Statement.{statement}
-use Rattle.store.proofs.advance.advance.Tie as tie
+use Rattle.storestep.proofs.advance.advance.Statement.{statement}
+use Rattle.storestep.proofs.advance.advance.Tie as tie
 
 abbrev start : tie.After-transition → tie.Start
 start c = c .before .before .before .before .before .before .before .before

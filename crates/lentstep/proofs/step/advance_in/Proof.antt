@@ -15,10 +15,10 @@ use Rattle.process.specs.ProcessWords.{sizes, processFrom}
 use Rattle.layout.specs.StateWords.{stateFrom, isStateAt, startOf}
 use Rattle.layout.proofs.Known.{part-is, part-long}
 use Rattle.layout.proofs.Written.{part-facts, events-at}
 use Rattle.lent.proofs.Laws.{passed, step-left}
 use borrow.Author.Needs.{needs}
-use Rattle.lent.proofs.step.advance_in.Statement.{statement}
-use Rattle.lent.proofs.step.advance_in.Tie as tie
+use Rattle.lentstep.proofs.step.advance_in.Statement.{statement}
+use Rattle.lentstep.proofs.step.advance_in.Tie as tie
 
 known : (s : tie.Start) → isStateAt (s .args .words .now) (s .args .process) ≡ true
 known s = passed _ _ _ _ _ (s .pre) .0

@@ -1,9 +1,9 @@
 -- Denied, nothing is left changed; let pass, it is the advance.
 use native.Mathlib.Omega.{arith}
-use Rattle.store.specs.Attempt.{attemptOf}
+use Rattle.storestep.specs.Attempt.{attemptOf}
 use borrow.Author.Needs.{needs}
-use Rattle.store.proofs.step.attempt.Statement.{statement}
-use Rattle.store.proofs.step.attempt.Tie as tie
+use Rattle.storestep.proofs.step.attempt.Statement.{statement}
+use Rattle.storestep.proofs.step.attempt.Tie as tie
 
 enum-known-permit : tie.Need-enum-known-permit
 enum-known-permit c = search needs

@@ -4,7 +4,7 @@ ghost use lib.ListN.{length};
 ghost use Rattle.model.specs.Layout.{limits};
 ghost use Rattle.tables.specs.Room.{Lent, memory};
 ghost use Rattle.calls.specs.Advance.{advanceOf};
-ghost use Rattle.store.specs.Attempt.{advanced};
+ghost use Rattle.storestep.specs.Attempt.{advanced};
 use crate::types::Advanced;
 use calls::after::count_end;
 use calls::after::outcome_of;

@@ -6,11 +6,11 @@ use lib.ListN.{length}
 use Rattle.process.specs.ProcessWords.{sizes}
 use Rattle.layout.specs.StateWords.{isStateAt}
 use Rattle.layout.proofs.Written.{part-facts, header-at}
 use Rattle.lent.specs.Calls.{stepPermitIn}
 use Rattle.lent.proofs.Laws.{kind-at, lawful-state, permit-known, step-denied}
 use borrow.Author.Needs.{needs}
-use Rattle.lent.proofs.step.step_known.Statement.{statement}
-use Rattle.lent.proofs.step.step_known.Tie as tie
+use Rattle.lentstep.proofs.step.step_known.Statement.{statement}
+use Rattle.lentstep.proofs.step.step_known.Tie as tie
 
 known : (s : tie.Start) → isStateAt (s .args .words .now) (s .args .process) ≡ true
 known s = lawful-state _ _ _ _ (s .pre .1)

@@ -6,10 +6,10 @@ use borrow.Author.Tests.{not-true, not-false}
 use Rattle.model.specs.State.{lawfulStore}
 use Rattle.layout.specs.StateWords.{stateFrom, knownHead}
 use Rattle.layout.proofs.Known.{head-long}
 use Rattle.lent.proofs.Laws.{header-known, lawful-headless, lawful-unlawful, lawful-known}
 use borrow.Author.Needs.{needs}
-use Rattle.lent.proofs.step.lawful_in.Statement.{statement}
-use Rattle.lent.proofs.step.lawful_in.Tie as tie
+use Rattle.lentstep.proofs.step.lawful_in.Statement.{statement}
+use Rattle.lentstep.proofs.step.lawful_in.Tie as tie
 
 head : (c : tie.Else1) → knownHead (c .before .before .before .before .before .args .words .now) ≡ true
 head c = sym (c .before .is-head .ensures) ∙ not-false _ (c .if1 .left)
