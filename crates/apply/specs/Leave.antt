@@ -19,8 +19,8 @@ pub record LeftIn : Type 0 where
   pub tally : List ℕ
 
 -- the process whose words begin at a place
-abbrev pub standing : (words : List ℕ) (at : ℕ) → Process
-standing w at = processFrom (take (sizes .process) (drop at w))
+abbrev pub processIn : (words : List ℕ) (at : ℕ) → Process
+processIn w at = processFrom (take (sizes .process) (drop at w))
 
 -- the words after an event: that process, the events and the counts are written over
 abbrev pub evented : (words : List ℕ) (at tick : ℕ) → Counts → Process → List ℕ
@@ -29,7 +29,7 @@ evented w at tick counts p = putEvent (sets w at (processWords p)) tick counts
 -- a refused move is no event
 abbrev pub leaveIn : (tick : ℕ) → Counts → Move → (words : List ℕ) (at : ℕ) (tally : List ℕ) → LeftIn
 leaveIn tick counts v w at tally = record {
-  outcome = outcomeOf tick (standing w at .call) v;
-  words = if refuses v then w else evented w at tick counts (processAfter tick (standing w at) v);
+  outcome = outcomeOf tick (processIn w at .call) v;
+  words = if refuses v then w else evented w at tick counts (processAfter tick (processIn w at) v);
   tally = tallyAfter tally v;
 }

@@ -7,7 +7,7 @@ ghost use Rattle.model.specs.declared.types.Move.the-variants.{End};
 ghost use Rattle.model.specs.Layout.{limits, topLevel};
 ghost use Rattle.model.specs.Phases.{refuses};
 ghost use Rattle.process.specs.ProcessWords.{sizes, knownProcess};
-ghost use Rattle.apply.specs.Leave.{standing, leaveIn};
+ghost use Rattle.apply.specs.Leave.{processIn, leaveIn};
 use crate::changes::apply_commit;
 use crate::changes::apply_note;
 use calls::after::count_end;
@@ -64,7 +64,7 @@ pub fn leave(
     requires { ⌜ length (now words) ≡ sizes .state ⌝ }
     requires { ⌜ at + sizes .process ≤ sizes .state ⌝ }
     requires { ⌜ knownProcess (take (sizes .process) (drop at (now words))) ≡ true ⌝ }
-    requires { ⌜ (refuses mv ≡ false → standing (now words) at .cursor .level ≤ topLevel) ⌝ }
+    requires { ⌜ (refuses mv ≡ false → processIn (now words) at .cursor .level ≤ topLevel) ⌝ }
     requires { ⌜ length (now tally) ≡ limits .answers ⌝ }
     ensures { λ r. ⌜ record { outcome = r; words = now (words .exit); tally = now (tally .exit) } ≡ leaveIn tick counts mv (now (words .entry)) at (now (tally .entry)) ⌝ }
 {

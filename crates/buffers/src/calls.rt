@@ -4,7 +4,7 @@ ghost use Rattle.model.specs.Requests.{put, get};
 ghost use Rattle.decoder.specs.declared.types.Command.the-variants.{Open, Step};
 ghost use Rattle.buffers.specs.Session.{session, done, started, startOn, lookOn, inspectOn, callOn};
 use crate::lend::asked;
-use crate::lend::held;
+use crate::lend::table_words;
 use crate::types::Performed;
 use model::types::Key;
 use model::types::StartResult;
@@ -73,8 +73,8 @@ pub fn put_on(
     ensures { λ r. ⌜ r
         ≡ startOn s (now (nodes .entry)) (now (versions .entry)) process (put key value timestamp draw) ⌝ }
 {
-    let n = held(nodes, s.lengths.nodes);
-    let m = held(versions, s.lengths.versions);
+    let n = table_words(nodes, s.lengths.nodes);
+    let m = table_words(versions, s.lengths.versions);
     let r = start_put(
         s,
         &nodes[..n],
@@ -92,8 +92,8 @@ pub fn put_on(
 pub fn get_on(s: State, process: u32, key: Key, nodes: &[u32], versions: &[u32]) -> Performed
     ensures { λ r. ⌜ r ≡ startOn s (now (nodes .entry)) (now (versions .entry)) process (get key) ⌝ }
 {
-    let n = held(nodes, s.lengths.nodes);
-    let m = held(versions, s.lengths.versions);
+    let n = table_words(nodes, s.lengths.nodes);
+    let m = table_words(versions, s.lengths.versions);
     let r = start_get(s, &nodes[..n], &versions[..m], process, key);
     started(process, r)
 }
@@ -109,8 +109,8 @@ pub fn step_on(
     ensures { λ r. ⌜ done r (now (nodes .exit)) (now (versions .exit)) (now (tally .exit))
         ≡ callOn (session s (now (nodes .entry)) (now (versions .entry)) (now (tally .entry))) (Step process) ⌝ }
 {
-    let n = held(nodes, s.lengths.nodes);
-    let m = held(versions, s.lengths.versions);
+    let n = table_words(nodes, s.lengths.nodes);
+    let m = table_words(versions, s.lengths.versions);
     let r = step(s, process, &mut nodes[..n], &mut versions[..m], tally);
     let outcome = r.outcome;
     let state = r.state;
@@ -122,8 +122,8 @@ pub fn step_on(
 pub fn look_on(s: State, key: Key, back: u32, nodes: &[u32], versions: &[u32]) -> Line
     ensures { λ r. ⌜ r ≡ lookOn s (now (nodes .entry)) (now (versions .entry)) key back ⌝ }
 {
-    let n = held(nodes, s.lengths.nodes);
-    let m = held(versions, s.lengths.versions);
+    let n = table_words(nodes, s.lengths.nodes);
+    let m = table_words(versions, s.lengths.versions);
     let outcome = look(s, &nodes[..n], &versions[..m], key, back);
     of_look(key, back, outcome)
 }
@@ -132,8 +132,8 @@ pub fn look_on(s: State, key: Key, back: u32, nodes: &[u32], versions: &[u32]) -
 pub fn inspect_on(s: State, nodes: &[u32], versions: &[u32]) -> Line
     ensures { λ r. ⌜ r ≡ inspectOn s (now (nodes .entry)) (now (versions .entry)) ⌝ }
 {
-    let n = held(nodes, s.lengths.nodes);
-    let m = held(versions, s.lengths.versions);
+    let n = table_words(nodes, s.lengths.nodes);
+    let m = table_words(versions, s.lengths.versions);
     let outcome = inspect(s, &nodes[..n], &versions[..m]);
     of_inspect(outcome)
 }

@@ -11,7 +11,7 @@ fn least(a: usize, b: usize) -> usize
 }
 
 // A table of `words`, as far as the buffer goes.
-pub fn held(buffer: &[u32], words: u32) -> usize
+pub fn table_words(buffer: &[u32], words: u32) -> usize
     ensures { λ r. ⌜ Lends r words (now (buffer .entry)) ⌝ }
 {
     least(words as usize, buffer.len())

@@ -30,7 +30,7 @@ use Rattle.layout.proofs.Laws.{process-at, state-facts, state-back, putProcess,
 use Rattle.layout.proofs.Known.{by-none}
 use Rattle.layout.proofs.Whole.{put-part}
 use Rattle.layout.proofs.Written.{header-at, written-same, written-over}
-use Rattle.apply.specs.Leave.{LeftIn, standing, evented, leaveIn}
+use Rattle.apply.specs.Leave.{LeftIn, processIn, evented, leaveIn}
 use Rattle.apply.proofs.Left.{put-sets}
 use Rattle.lent.specs.Calls.{StartIn, startedIn, startUnless, begunIn, StepIn, steppedIn, stepWritten, lawfulIn, stepPermitIn, stepIn}
 
@@ -139,19 +139,19 @@ module _ (w nodes versions tally : List ℕ) (i : ℕ) where
         (used : counts ≡ stateFrom w .counts)
         (granted : stepPermit store i ≡ Granted)
         (few : i < limits .processes)
-        (turned : moved m v ≡ transitionOf (i + 1) (events + 1) (standing w (startOf i)) (memory nodes versions counts))
+        (turned : moved m v ≡ transitionOf (i + 1) (events + 1) (processIn w (startOf i)) (memory nodes versions counts))
       where
-        found : standing w (startOf i) ≡ processAt (stateFrom w) i
+        found : processIn w (startOf i) ≡ processAt (stateFrom w) i
         found = sym (process-at w i few)
 
         advance : Advance
         advance = advanceOf (i + 1) (stateFrom w .events + 1) (processAt (stateFrom w) i) (memory nodes versions (stateFrom w .counts)) tally
 
-        is : advanceBy (events + 1) (standing w (startOf i)) tally (moved m v) ≡ advance
+        is : advanceBy (events + 1) (processIn w (startOf i)) tally (moved m v) ≡ advance
         unfolding advance advanceOf
         is =
-            ap (advanceBy (events + 1) (standing w (startOf i)) tally) turned
-            ∙ ap (λ e. advanceOf (i + 1) (e + 1) (standing w (startOf i)) (memory nodes versions counts) tally) now
+            ap (advanceBy (events + 1) (processIn w (startOf i)) tally) turned
+            ∙ ap (λ e. advanceOf (i + 1) (e + 1) (processIn w (startOf i)) (memory nodes versions counts) tally) now
             ∙ ap (λ p. advanceOf (i + 1) (stateFrom w .events + 1) p (memory nodes versions counts) tally) found
             ∙ ap (λ k. advanceOf (i + 1) (stateFrom w .events + 1) (processAt (stateFrom w) i) (memory nodes versions k) tally) used
 
@@ -174,7 +174,7 @@ module _ (w nodes versions tally : List ℕ) (i : ℕ) where
         left-moves : refuses v ≡ false → left leaving ≡ stepWritten w i (stepOf store i)
         unfolding advance advanceBy
         left-moves e =
-            let p = processAfter (events + 1) (standing w (startOf i)) v in
+            let p = processAfter (events + 1) (processIn w (startOf i)) v in
             let chosen : leaving .words ≡ evented w (startOf i) (events + 1) (m .counts) p = simp e in
             let over = chosen ∙ ap (λ n. evented w (startOf i) (n + 1) (m .counts) p) now ∙ written-over w i p (m .counts) few in
             ap (λ u. left (record { outcome = leaving .outcome; words = u; tally = leaving .tally })) over

@@ -24,7 +24,7 @@ use Rattle.model.specs.Requests.{Operation}
 use Rattle.process.specs.ProcessWords.{sizes}
 use Rattle.layout.specs.StateWords.{stateWords, stateFrom, isState, isStateAt, written}
 use Rattle.apply.specs.Leave.{evented}
-use Rattle.store.specs.Calls.{startWith}
+use Rattle.store.specs.Contracts.{startWith}
 
 -- ---- open: whatever stood in the words, as long as there are enough of them
 

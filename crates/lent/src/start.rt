@@ -58,10 +58,10 @@ fn start_in(
         return Starting::Refused(Refusal::Corrupt);
     }
     let at = Sizes::HEAD + Sizes::PROCESS * slot(process);
-    let held = kind_of(words[at]);
+    let running = kind_of(words[at]);
     let permit = start_permit(
         &words[HeadOffsets::HEADER..Sizes::HEAD],
-        held,
+        running,
         nodes,
         versions,
         process,

@@ -79,8 +79,8 @@ fn advance_in(
     let at = Sizes::HEAD + Sizes::PROCESS * process as usize;
     let end = at + Sizes::PROCESS;
     let tick = words[HeadOffsets::EVENTS] + 1;
-    let held = counts_in(words);
-    let t = transition(&words[at..end], held, process + 1, tick, nodes, versions);
+    let before = counts_in(words);
+    let t = transition(&words[at..end], before, process + 1, tick, nodes, versions);
     let mv = t.mv;
     let counts = t.counts;
     leave(words, at, tick, counts, mv, tally)

@@ -62,15 +62,15 @@ pub fn walk(call: Call, c: Cursor, tick: u32, used: u32, nodes: &[u32]) -> Move
     }
 }
 
-// `held` is the last version in use.
-pub fn read(c: Cursor, tick: u32, used: u32, held: u32, nodes: &[u32], versions: &[u32]) -> Move
+// `last` is the last version in use.
+pub fn read(c: Cursor, tick: u32, used: u32, last: u32, nodes: &[u32], versions: &[u32]) -> Move
     requires { ⌜ Ready (now nodes) used c ⌝ }
-    requires { ⌜ VersionRoom (now versions) held ⌝ }
+    requires { ⌜ VersionRoom (now versions) last ⌝ }
     ensures { λ r. ⌜ ((call : Call) → r
-        ≡ readOf call c tick (memory (now (nodes .entry)) (now (versions .entry)) (record { nodes = used; versions = held }))) ⌝ }
+        ≡ readOf call c tick (memory (now (nodes .entry)) (now (versions .entry)) (record { nodes = used; versions = last }))) ⌝ }
 {
     let i = newest_at(nodes, c.pred);
-    let in_use = (1 <= i) & (i <= held);
+    let in_use = (1 <= i) & (i <= last);
     if in_use {
         let version = version_at(versions, i);
         Move::End(Answer::Found, version, tick)

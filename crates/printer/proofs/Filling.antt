@@ -12,7 +12,7 @@ use lib.Seq.{take-suc}
 use Rattle.model.specs.Choice.{if_then_else_}
 use Rattle.printer.specs.Types.{Sentence}
 use Rattle.printer.specs.Text.{decimal}
-use Rattle.printer.specs.Sentences.{standing, number, numberAt, piece, filled, sentence, digitsAt, most, longest}
+use Rattle.printer.specs.Sentences.{byteCase, number, numberAt, piece, filled, sentence, digitsAt, most, longest}
 use Rattle.printer.proofs.Writing.{decimal-few, decimal-wide}
 
 module _ (s : Sentence) where
@@ -43,8 +43,8 @@ module _ (s : Sentence) where
         by true = decimal-wide (s .key) wide
         by false = decimal-few n (few (b - code "1"))
 
-    piece-short : (b : ℕ) → length (piece s b) ≤ standing b (digitsAt b) 0 1
-    unfolding piece standing
+    piece-short : (b : ℕ) → length (piece s b) ≤ byteCase b (digitsAt b) 0 1
+    unfolding piece byteCase
     piece-short b = by (leb (code "0") b && leb b (code "6")) (eqb b (code "."))
       where
         by : (t dot : Bool) → length (if t then decimal (numberAt s b) else (if dot then [] else b ∷ []))

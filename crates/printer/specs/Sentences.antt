@@ -13,8 +13,8 @@ use Rattle.printer.specs.Lines.{kindWord, answerWord}
 
 -- a choice by what a byte of a format stands for: `0` for the key and `1` to `6` for the numbers, a dot for nothing, any
 -- other for itself
-unfoldable pub standing : {A : Type 0} (b : ℕ) (number nothing itself : A) → A
-standing b number nothing itself =
+unfoldable pub byteCase : {A : Type 0} (b : ℕ) (number nothing itself : A) → A
+byteCase b number nothing itself =
     if leb (code "0") b && leb b (code "6") then number else (if eqb b (code ".") then nothing else itself)
 
 -- a byte that stands for a number
@@ -32,7 +32,7 @@ unfoldable pub numberAt : Sentence → (b : ℕ) → ℕ
 numberAt s b = if eqb b (code "0") then s .key else number s (b - code "1")
 
 unfoldable pub piece : Sentence → (b : ℕ) → List ℕ
-piece s b = standing b (decimal (numberAt s b)) [] (b ∷ [])
+piece s b = byteCase b (decimal (numberAt s b)) [] (b ∷ [])
 
 -- a format with the key and the numbers in their places
 unfoldable pub filled : Sentence → (format : List ℕ) → List ℕ
@@ -52,7 +52,7 @@ digitsAt b = if eqb b (code "0") then 20 else 10
 -- the most bytes that a format takes
 unfoldable pub most : (format : List ℕ) → ℕ
 most [] = 0
-most (b ∷ format) = standing b (digitsAt b) 0 1 + most format
+most (b ∷ format) = byteCase b (digitsAt b) 0 1 + most format
 
 abbrev pub longest : Sentence → ℕ
 longest s = most (s .opening) + most (s .closing)

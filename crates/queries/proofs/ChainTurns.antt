@@ -13,60 +13,60 @@ use Rattle.model.proofs.Tests.{T-true}
 use Rattle.model.proofs.ChainBound.{falls-turn, falls-fuel, ages-fuel}
 
 module _ (m : Memory) (i : ℕ) where
-  abbrev held : ℕ
-  held = m .counts .versions
+  abbrev last : ℕ
+  last = m .counts .versions
 
-  pub falls-zero : i ≡ 0 → chainFalls m (held + 1) i ≡ false
+  pub falls-zero : i ≡ 0 → chainFalls m (last + 1) i ≡ false
   unfolding chainFalls
   falls-zero z = rw add-one (let u = lt-leb 1 i (omega arith) in simp u)
 
-  pub falls-unused : 1 ≤ i → held < i → chainFalls m (held + 1) i ≡ false
+  pub falls-unused : 1 ≤ i → last < i → chainFalls m (last + 1) i ≡ false
   unfolding chainFalls
   falls-unused a b = rw add-one (simp (le-leb 1 i a, lt-leb _ _ b))
 
-  module _ (p : ℕ) (e : p ≡ prev (m .versions) i) (a : 1 ≤ i) (b : i ≤ held) where
-    pub falls-rising : i ≤ p → chainFalls m (held + 1) i ≡ false
+  module _ (p : ℕ) (e : p ≡ prev (m .versions) i) (a : 1 ≤ i) (b : i ≤ last) where
+    pub falls-rising : i ≤ p → chainFalls m (last + 1) i ≡ false
     unfolding chainFalls
     falls-rising q = rw add-one (simp (le-leb 1 i a, le-leb _ _ b, ← e, le-leb _ _ q))
 
-    pub falls-oldest : p < i → p ≡ 0 → chainFalls m (held + 1) i ≡ true
+    pub falls-oldest : p < i → p ≡ 0 → chainFalls m (last + 1) i ≡ true
     unfolding chainFalls
     falls-oldest q z = rw add-one (simp (le-leb 1 i a, le-leb _ _ b, ← e, lt-leb _ _ q, eq-eqb _ _ z))
 
-    pub falls-on : p < i → (p ≡ 0 → ⊥) → chainFalls m (held + 1) i ≡ chainFalls m (held + 1) p
+    pub falls-on : p < i → (p ≡ 0 → ⊥) → chainFalls m (last + 1) i ≡ chainFalls m (last + 1) p
     unfolding chainFalls
     falls-on q z = rw add-one (simp (le-leb 1 i a, le-leb _ _ b, ← e, lt-leb _ _ q, ne-eqb _ _ z)
-        (falls-fuel m held (suc held) p (omega arith) (omega arith)))
+        (falls-fuel m last (suc last) p (omega arith) (omega arith)))
 
   -- ---- timestamps, along a chain that falls
 
-  module _ (f : chainFalls m (held + 1) i ≡ true) where
+  module _ (f : chainFalls m (last + 1) i ≡ true) where
     pub falls-used : InUse m i
-    falls-used = falls-turn m held i (rw add-one at (T-true f)) .0
+    falls-used = falls-turn m last i (rw add-one at (T-true f)) .0
 
     module _ (p : ℕ) (e : p ≡ prev (m .versions) i) where
       pub falls-less : p < i
-      falls-less = rw e (falls-turn m held i (rw add-one at (T-true f)) .1)
+      falls-less = rw e (falls-turn m last i (rw add-one at (T-true f)) .1)
 
-      pub ages-oldest : p ≡ 0 → chainAges m (held + 1) i ≡ true
+      pub ages-oldest : p ≡ 0 → chainAges m (last + 1) i ≡ true
       unfolding chainAges
       ages-oldest z = rw add-one (simp (← e, eq-eqb _ _ z))
 
       module _ (nz : p ≡ 0 → ⊥) where
-        pub falls-behind : chainFalls m (held + 1) p ≡ true
+        pub falls-behind : chainFalls m (last + 1) p ≡ true
         falls-behind = let u = falls-used in sym (falls-on p e (u .0) (u .1) falls-less nz) ∙ f
 
         module _ (s t : ℕ) (es : s ≡ timestamp (m .versions) i) (et : t ≡ timestamp (m .versions) p) where
-          pub ages-younger : s < t → chainAges m (held + 1) i ≡ false
+          pub ages-younger : s < t → chainAges m (last + 1) i ≡ false
           unfolding chainAges
           ages-younger q = rw add-one (simp (← e, ne-eqb _ _ nz, ← es, ← et, lt-ltb _ _ q))
 
-          older : t ≤ s → chainAges m (suc held) i ≡ chainAges m held p
+          older : t ≤ s → chainAges m (suc last) i ≡ chainAges m last p
           unfolding chainAges
           older q = simp (← e, ne-eqb _ _ nz, ← es, ← et, le-ltb _ _ q)
 
-          pub ages-on : t ≤ s → chainAges m (held + 1) i ≡ chainAges m (held + 1) p
+          pub ages-on : t ≤ s → chainAges m (last + 1) i ≡ chainAges m (last + 1) p
           ages-on q =
               let u = falls-used in
-              let h = falls-turn m held i (rw add-one at (T-true f)) .2 (λ z. nz (e ∙ z)) in
-              rw add-one (older q ∙ ages-fuel m held (suc held) p (omega arith) (omega arith) (rw (← e) at h))
+              let h = falls-turn m last i (rw add-one at (T-true f)) .2 (λ z. nz (e ∙ z)) in
+              rw add-one (older q ∙ ages-fuel m last (suc last) p (omega arith) (omega arith) (rw (← e) at h))

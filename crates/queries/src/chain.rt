@@ -10,17 +10,17 @@ use tables::nodes::newest_at;
 use tables::versions::prev_at;
 use tables::versions::timestamp_at;
 
-// Whether every version is in use and its index smaller than the one before; `held` is the last version in use.
-pub fn chain_falls(versions: &[u32], held: u32, first: u32) -> bool
-    requires { ⌜ VersionRoom (now versions) held ⌝ }
-    ensures { λ r. ⌜ ((nodes : List ℕ) (n : ℕ) → r ≡ chainFalls (versionsIn (now (versions .entry)) held nodes n) (held + 1) first) ⌝ }
+// Whether every version is in use and its index smaller than the one before; `last` is the last version in use.
+pub fn chain_falls(versions: &[u32], last: u32, first: u32) -> bool
+    requires { ⌜ VersionRoom (now versions) last ⌝ }
+    ensures { λ r. ⌜ ((nodes : List ℕ) (n : ℕ) → r ≡ chainFalls (versionsIn (now (versions .entry)) last nodes n) (last + 1) first) ⌝ }
 {
     let mut i = first;
     'chain: loop {
         if i == 0 {
             break 'chain false;
         }
-        if held < i {
+        if last < i {
             break 'chain false;
         }
         let prev = prev_at(versions, i);
@@ -35,10 +35,10 @@ pub fn chain_falls(versions: &[u32], held: u32, first: u32) -> bool
 }
 
 // Whether, along a chain that falls, no older version has a greater timestamp.
-pub fn chain_ages(versions: &[u32], held: u32, first: u32) -> bool
-    requires { ⌜ VersionRoom (now versions) held ⌝ }
-    requires { ⌜ ((nodes : List ℕ) (n : ℕ) → chainFalls (versionsIn (now versions) held nodes n) (held + 1) first ≡ true) ⌝ }
-    ensures { λ r. ⌜ ((nodes : List ℕ) (n : ℕ) → r ≡ chainAges (versionsIn (now (versions .entry)) held nodes n) (held + 1) first) ⌝ }
+pub fn chain_ages(versions: &[u32], last: u32, first: u32) -> bool
+    requires { ⌜ VersionRoom (now versions) last ⌝ }
+    requires { ⌜ ((nodes : List ℕ) (n : ℕ) → chainFalls (versionsIn (now versions) last nodes n) (last + 1) first ≡ true) ⌝ }
+    ensures { λ r. ⌜ ((nodes : List ℕ) (n : ℕ) → r ≡ chainAges (versionsIn (now (versions .entry)) last nodes n) (last + 1) first) ⌝ }
 {
     let mut i = first;
     'chain: loop {

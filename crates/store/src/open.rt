@@ -1,7 +1,7 @@
 // Opening: both tables zeroed, and a fresh state.
 ghost use mathlib.Core.Path.{_≡_};
 ghost use Rattle.model.specs.Calls.{openOf};
-ghost use Rattle.store.specs.Calls.{opened};
+ghost use Rattle.store.specs.Contracts.{opened};
 use model::types::Lengths;
 use model::types::OpenResult;
 use model::types::Opening;

@@ -2,7 +2,7 @@
 ghost use mathlib.Core.Path.{_≡_};
 ghost use Rattle.model.specs.Requests.{put, get};
 ghost use Rattle.model.specs.Calls.{startOf};
-ghost use Rattle.store.specs.Calls.{timed, startWith};
+ghost use Rattle.store.specs.Contracts.{timed, startWith};
 use calls::begin::begin;
 use calls::begin::top_of;
 use calls::slot::slot;
@@ -23,9 +23,9 @@ fn start(mut s: State, nodes: &[u32], versions: &[u32], process: u32, asked: Cal
     let i = slot(process);
     let p = s.process[i];
     let running = p.call;
-    let held = running.kind;
+    let kind = running.kind;
     let h = header_of(s);
-    let permit = start_permit(&h, held, nodes, versions, process, asked.key);
+    let permit = start_permit(&h, kind, nodes, versions, process, asked.key);
     match permit {
         Permit::Denied(refusal) => StartResult {
             outcome: Starting::Refused(refusal),

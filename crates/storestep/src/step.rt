@@ -60,9 +60,9 @@ pub fn step(
     let kind = call.kind;
     let h = header_of(s);
     let permit = step_permit(&h, kind, nodes, versions, tally, process);
-    let held = s.counts;
+    let before = s.counts;
     let events = s.events;
-    let a = attempt(permit, p, held, process, events, nodes, versions, tally);
+    let a = attempt(permit, p, before, process, events, nodes, versions, tally);
     let outcome = a.outcome;
     if !a.refused {
         let after = a.process;

@@ -105,8 +105,8 @@ pub fn update(
     let node_used = (1 <= node) & (node <= used);
     if node_used {
         let newest = newest_at(nodes, node);
-        let held = counts.versions;
-        let newest_used = (1 <= newest) & (newest <= held);
+        let last = counts.versions;
+        let newest_used = (1 <= newest) & (newest <= last);
         if newest_used {
             return update_node(call, c, node, newest, counts, nodes, versions);
         }

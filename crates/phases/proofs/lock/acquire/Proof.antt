@@ -1,4 +1,4 @@
--- A free lock is taken, a held one waited for.
+-- A free lock is taken, a last one waited for.
 use Rattle.model.specs.Phases.{lockOf}
 use borrow.Author.Tests.{eq-eqb, ne-eqb}
 use borrow.Author.Needs.{needs}

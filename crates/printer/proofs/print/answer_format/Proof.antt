@@ -2,7 +2,7 @@
 use mathlib.Core.Path.{refl}
 use native.Mathlib.Omega.{arith}
 use borrow.Author.Needs.{needs}
-use Rattle.printer.specs.Sentences.{standing, numberAt, piece, filled, most}
+use Rattle.printer.specs.Sentences.{byteCase, numberAt, piece, filled, most}
 use Rattle.printer.proofs.print.answer_format.Statement.{statement}
 use Rattle.printer.proofs.print.answer_format.Tie as tie
 
@@ -28,37 +28,37 @@ enum-told-7 : tie.Need-enum-told-7
 enum-told-7 c = search needs
 
 returns : tie.Need-returns
-unfolding standing numberAt piece filled most
+unfolding byteCase numberAt piece filled most
 returns c =
     rw (c .enum-told .given .1) (record { reads = λ s. refl; short = omega arith })
 
 returns-2 : tie.Need-returns-2
-unfolding standing numberAt piece filled most
+unfolding byteCase numberAt piece filled most
 returns-2 c =
     rw (c .enum-told2 .given .1) (record { reads = λ s. refl; short = omega arith })
 
 returns-3 : tie.Need-returns-3
-unfolding standing numberAt piece filled most
+unfolding byteCase numberAt piece filled most
 returns-3 c =
     rw (c .enum-told3 .given .1) (record { reads = λ s. refl; short = omega arith })
 
 returns-4 : tie.Need-returns-4
-unfolding standing numberAt piece filled most
+unfolding byteCase numberAt piece filled most
 returns-4 c =
     rw (c .enum-told4 .given .1) (record { reads = λ s. refl; short = omega arith })
 
 returns-5 : tie.Need-returns-5
-unfolding standing numberAt piece filled most
+unfolding byteCase numberAt piece filled most
 returns-5 c =
     rw (c .enum-told5 .given .1) (record { reads = λ s. refl; short = omega arith })
 
 returns-6 : tie.Need-returns-6
-unfolding standing numberAt piece filled most
+unfolding byteCase numberAt piece filled most
 returns-6 c =
     rw (c .enum-told6 .given .1) (record { reads = λ s. refl; short = omega arith })
 
 returns-7 : tie.Need-returns-7
-unfolding standing numberAt piece filled most
+unfolding byteCase numberAt piece filled most
 returns-7 c =
     rw (c .enum-told7 .given .1) (record { reads = λ s. refl; short = omega arith })
 

@@ -2,7 +2,7 @@
 use mathlib.Core.Path.{refl}
 use native.Mathlib.Omega.{arith}
 use borrow.Author.Needs.{needs}
-use Rattle.printer.specs.Sentences.{standing, numberAt, piece, filled, most}
+use Rattle.printer.specs.Sentences.{byteCase, numberAt, piece, filled, most}
 use Rattle.printer.proofs.print.kind_format.Statement.{statement}
 use Rattle.printer.proofs.print.kind_format.Tie as tie
 
@@ -16,15 +16,15 @@ enum-told-3 : tie.Need-enum-told-3
 enum-told-3 c = search needs
 
 returns : tie.Need-returns
-unfolding standing numberAt piece filled most
+unfolding byteCase numberAt piece filled most
 returns c = rw (c .enum-told .given .1) (record { reads = λ s. refl; short = omega arith })
 
 returns-2 : tie.Need-returns-2
-unfolding standing numberAt piece filled most
+unfolding byteCase numberAt piece filled most
 returns-2 c = rw (c .enum-told2 .given .1) (record { reads = λ s. refl; short = omega arith })
 
 returns-3 : tie.Need-returns-3
-unfolding standing numberAt piece filled most
+unfolding byteCase numberAt piece filled most
 returns-3 c = rw (c .enum-told3 .given .1) (record { reads = λ s. refl; short = omega arith })
 
 pub kind-format-spec : {M : Type 1} → statement M

@@ -12,7 +12,7 @@ use borrow.Author.Tests.{eq-eqb, ne-eqb}
 use Rattle.model.proofs.Tests.{leb-iff}
 use Rattle.printer.specs.Types.{Sentence}
 use Rattle.printer.specs.Text.{decimal, Wrote}
-use Rattle.printer.specs.Sentences.{standing, numberAt, piece, filled, formatOf}
+use Rattle.printer.specs.Sentences.{byteCase, numberAt, piece, filled, formatOf}
 use Rattle.printer.proofs.Writing.{behind, no-byte, one-byte}
 use Rattle.printer.proofs.Filling.{filled-next, filled-part}
 use Rattle.printer.proofs.text.put_sentence.Statement.{statement}
@@ -20,15 +20,15 @@ use Rattle.printer.proofs.text.put_sentence.Tie as tie
 
 module _ (s : Sentence) (b : ℕ) where
   number-is : (leb 48 b && leb b 54) ≡ true → piece s b ≡ decimal (numberAt s b)
-  unfolding piece standing
+  unfolding piece byteCase
   number-is e = simp e
 
   itself-is : (leb 48 b && leb b 54) ≡ false → (b ≡ 46 → ⊥) → piece s b ≡ b ∷ []
-  unfolding piece standing
+  unfolding piece byteCase
   itself-is e h = simp (e, ne-eqb b 46 h)
 
   nothing-is : (leb 48 b && leb b 54) ≡ false → b ≡ 46 → piece s b ≡ []
-  unfolding piece standing
+  unfolding piece byteCase
   nothing-is e h = simp (e, eq-eqb b 46 h)
 
 abbrev Inv-loop : tie.InvT-loop

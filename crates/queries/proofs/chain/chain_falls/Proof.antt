@@ -11,11 +11,11 @@ use Rattle.queries.proofs.chain.chain_falls.Statement.{statement}
 use Rattle.queries.proofs.chain.chain_falls.Tie as tie
 
 abbrev Inv-chain : tie.InvT-chain
-Inv-chain versions held first i₀ i =
-    (nodes : List ℕ) (n : ℕ) → let m = versionsIn versions held nodes n in chainFalls m (held + 1) first ≡ chainFalls m (held + 1) i
+Inv-chain versions last first i₀ i =
+    (nodes : List ℕ) (n : ℕ) → let m = versionsIn versions last nodes n in chainFalls m (last + 1) first ≡ chainFalls m (last + 1) i
 
 abbrev μ-chain : tie.MeasureT-chain
-μ-chain versions held first i₀ i = i
+μ-chain versions last first i₀ i = i
 
 chain-holds : tie.Need-chain-holds Inv-chain μ-chain
 chain-holds c = λ nodes n. refl
@@ -30,7 +30,7 @@ chain-again : tie.Need-chain-again Inv-chain μ-chain
 chain-again c =
     let a = c .before .before .before .before .before .before .before .args in
     let l = c .before .before .before .before .before .chain in
-    λ nodes n. let m = versionsIn (a .versions .now) (a .held) nodes n in
+    λ nodes n. let m = versionsIn (a .versions .now) (a .last) nodes n in
     l .inv nodes n
     ∙ falls-on m (l .i) _ (c .before .before .prev-at .ensures) (omega arith) (omega arith) (c .before .if3 .left) (c .if4 .left)
 
@@ -38,28 +38,28 @@ returns : tie.Need-returns Inv-chain μ-chain
 returns c =
     let a = c .before .before .before .args in
     let l = c .before .chain in
-    λ nodes n. let m = versionsIn (a .versions .now) (a .held) nodes n in
+    λ nodes n. let m = versionsIn (a .versions .now) (a .last) nodes n in
     sym (l .inv nodes n ∙ falls-zero m (l .i) (c .if1 .taken))
 
 returns-2 : tie.Need-returns-2 Inv-chain μ-chain
 returns-2 c =
     let a = c .before .before .before .before .args in
     let l = c .before .before .chain in
-    λ nodes n. let m = versionsIn (a .versions .now) (a .held) nodes n in
+    λ nodes n. let m = versionsIn (a .versions .now) (a .last) nodes n in
     sym (l .inv nodes n ∙ falls-unused m (l .i) (omega arith) (c .if2 .taken))
 
 returns-3 : tie.Need-returns-3 Inv-chain μ-chain
 returns-3 c =
     let a = c .before .before .before .before .before .before .args in
     let l = c .before .before .before .before .chain in
-    λ nodes n. let m = versionsIn (a .versions .now) (a .held) nodes n in
+    λ nodes n. let m = versionsIn (a .versions .now) (a .last) nodes n in
     sym (l .inv nodes n ∙ falls-rising m (l .i) _ (c .before .prev-at .ensures) (omega arith) (omega arith) (c .if3 .taken))
 
 returns-4 : tie.Need-returns-4 Inv-chain μ-chain
 returns-4 c =
     let a = c .before .before .before .before .before .before .before .args in
     let l = c .before .before .before .before .before .chain in
-    λ nodes n. let m = versionsIn (a .versions .now) (a .held) nodes n in
+    λ nodes n. let m = versionsIn (a .versions .now) (a .last) nodes n in
     sym
     (l .inv nodes n
     ∙ falls-oldest m (l .i) _ (c .before .before .prev-at .ensures) (omega arith) (omega arith) (c .before .if3 .left) (c .if4 .taken))

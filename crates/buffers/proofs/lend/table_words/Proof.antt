@@ -1,8 +1,8 @@
 -- The lesser of both lends all that there is.
 use Rattle.buffers.proofs.Buffers.{lends}
 use borrow.Author.Needs.{needs}
-use Rattle.buffers.proofs.lend.held.Statement.{statement}
-use Rattle.buffers.proofs.lend.held.Tie as tie
+use Rattle.buffers.proofs.lend.table_words.Statement.{statement}
+use Rattle.buffers.proofs.lend.table_words.Tie as tie
 
 least-requires : tie.Need-least-requires
 least-requires c κs = search needs
@@ -10,5 +10,5 @@ least-requires c κs = search needs
 returns : tie.Need-returns
 returns c = lends _ _ _ (c .least .ensures)
 
-pub held-spec : {M : Type 1} → statement M
-held-spec = tie.close (tie.spec least-requires returns)
+pub table-words-spec : {M : Type 1} → statement M
+table-words-spec = tie.close (tie.spec least-requires returns)
