@@ -39,7 +39,8 @@ fn finish(
     requires { ⌜ length (now words) ≡ sizes .state ⌝ }
     requires { ⌜ at + sizes .process ≤ sizes .state ⌝ }
     requires { ⌜ length (now tally) ≡ limits .answers ⌝ }
-    ensures { λ r. ⌜ record { outcome = r; words = now (words .exit); tally = now (tally .exit) } ≡ leaveIn tick counts (End answer version effect) (now (words .entry)) at (now (tally .entry)) ⌝ }
+    ensures { λ r. ⌜ record { outcome = r; words = now (words .exit); tally = now (tally .exit) }
+        ≡ leaveIn tick counts (End answer version effect) (now (words .entry)) at (now (tally .entry)) ⌝ }
 {
     let mv = Move::End(answer, version, effect);
     count_end(tally, mv);
@@ -51,7 +52,7 @@ fn finish(
     outcome_of(tick, call, mv)
 }
 
-// `counts` are those that the turn left. Each arm writes all that its move does, so that the compiled code goes from the
+// `counts` are those that the transition left. Each arm writes all that its move does, so that the compiled code goes from the
 // phase that made the move straight to it, and writes no word that stays.
 pub fn leave(
     words: &mut [u32],
@@ -66,7 +67,8 @@ pub fn leave(
     requires { ⌜ knownProcess (take (sizes .process) (drop at (now words))) ≡ true ⌝ }
     requires { ⌜ (refuses mv ≡ false → processIn (now words) at .cursor .level ≤ topLevel) ⌝ }
     requires { ⌜ length (now tally) ≡ limits .answers ⌝ }
-    ensures { λ r. ⌜ record { outcome = r; words = now (words .exit); tally = now (tally .exit) } ≡ leaveIn tick counts mv (now (words .entry)) at (now (tally .entry)) ⌝ }
+    ensures { λ r. ⌜ record { outcome = r; words = now (words .exit); tally = now (tally .exit) }
+        ≡ leaveIn tick counts mv (now (words .entry)) at (now (tally .entry)) ⌝ }
 {
     let to = at + Sizes::PROCESS;
     match mv {

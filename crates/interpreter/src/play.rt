@@ -94,6 +94,7 @@ pub fn play(
         ≡ playOf (now (bytes .entry))
         (playing p (now (nodes .entry)) (now (versions .entry)) (now (tally .entry)) (now (out .entry))) ⌝ }
     ensures { λ r. ⌜ (Within p (now (bytes .entry)) (now (out .entry)) → Within r (now (bytes .entry)) (now (out .entry))) ⌝ }
+    ensures { λ r. ⌜ r .more ≡ false ⌝ }
 {
     let mut at = p;
     let mut left = bytes.len();
@@ -104,7 +105,7 @@ pub fn play(
         }
         left -= 1;
     }
-    at
+    stay(at)
 }
 
 pub fn rest(bytes: &[u8], read: usize, ended: bool) -> Rest

@@ -140,7 +140,8 @@ pub fn words_of(p: Process) -> [u32; Sizes::PROCESS]
 // every step.
 pub fn put_cursor(w: &mut [u32], phase: Phase, level: u32, pred: u32, made: u32)
     requires { ⌜ length (now w) ≡ sizes .process ⌝ }
-    ensures { λ r. ⌜ now (w .exit) ≡ sets (now (w .entry)) (processOffsets .phase) (cursorWords (record { phase = phase; level = level; pred = pred; made = made })) ⌝ }
+    ensures { λ r. ⌜ now (w .exit)
+        ≡ sets (now (w .entry)) (processOffsets .phase) (cursorWords (record { phase = phase; level = level; pred = pred; made = made })) ⌝ }
 {
     w[ProcessOffsets::PHASE] = phase_number(phase);
     w[ProcessOffsets::LEVEL] = level;

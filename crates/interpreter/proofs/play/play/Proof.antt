@@ -1,10 +1,11 @@
 -- As many tries are left as commands could be: the run of those still to make is the whole run.
-use mathlib.Core.Path.{_≡_, refl, _∙_}
+use mathlib.Core.Path.{_≡_, refl, ap, _∙_}
 use native.Mathlib.Omega.{arith}
 use lib.ListN.{length}
 use borrow.Author.Needs.{needs}
 use borrow.Author.Tests.{not-true}
 use Rattle.interpreter.specs.Sheet.{playing, Within, playFor, playOf}
+use Rattle.interpreter.specs.declared.types.Played.{Played}
 use Rattle.interpreter.proofs.Playing.{again, still, none-left}
 use Rattle.interpreter.proofs.play.play.Statement.{statement}
 use Rattle.interpreter.proofs.play.play.Tie as tie
@@ -43,14 +44,17 @@ returns c =
     let l = c .before .before .before .before .before .before .before .before .before .before .before .before .before .before .before
     .before .loop .inv in (
       still _ _ _ _ (e .0) (e .1 .0 (not-true _ (c .if1 .taken))) ∙ l .4,
-      λ h. let w = e .1 .1 (record {
-        read = l .5 h .read;
-        next = omega (
-          arith,
-          l .3,
-          l .5 h .next,
-        );
-      }) in record { read = w .read; next = omega (arith, l .3, w .next) },
+      (
+        λ h. let w = e .1 .1 (record {
+          read = l .5 h .read;
+          next = omega (
+            arith,
+            l .3,
+            l .5 h .next,
+          );
+        }) in record { read = w .read; next = omega (arith, l .3, w .next) },
+        not-true _ (c .if1 .taken),
+      ),
     )
 
 sub-left : tie.Need-sub-left Inv-loop μ-loop
@@ -80,6 +84,9 @@ loop-again c =
       }) in record { read = w .read; next = omega (arith, l .3, w .next) },
     )
 
+stay-requires : tie.Need-stay-requires Inv-loop μ-loop
+stay-requires c κs = search needs
+
 same-length-5 : tie.Need-same-length-5 Inv-loop μ-loop
 same-length-5 c = search needs
 
@@ -94,7 +101,13 @@ same-length-8 c = search needs
 
 returns-2 : tie.Need-returns-2 Inv-loop μ-loop
 unfolding playOf
-returns-2 c = (none-left _ _ _ (omega arith) ∙ c .before .loop .inv .4, c .before .loop .inv .5)
+returns-2 c =
+    let l = c .before .before .loop in
+    let i = l .inv in
+    let s = c .stay .ensures in (
+      ap (λ (r : Played). playing r (l .nodes) (l .versions) (l .tally) (l .out)) s ∙ none-left _ _ _ (omega arith) ∙ i .4,
+      ((λ h. let w = i .5 h in record { read = rw s (w .read); next = rw s (w .next) }), ap (λ (r : Played). r .more) s),
+    )
 
 pub play-spec : {M : Type 1} → statement M
 play-spec =
@@ -112,6 +125,7 @@ play-spec =
     sub-left
     loop-less
     loop-again
+    stay-requires
     same-length-5
     same-length-6
     same-length-7
