@@ -38,7 +38,7 @@ returns : tie.Need-returns Inv-loop μ-loop
 returns c =
     let l = c .before .before .before .before .before .before .before .before .before .before .before .before .before .before .before
     .loop .inv in
-    let w = c .before .before .before .before .before .before .before .before .before .play .ensures .1
+    let w = c .before .before .before .before .before .before .before .before .before .play .ensures .1 .0
     (record { read = l .4 .read; next = omega (arith, l .3, l .4 .next) }) in
     record { read = w .read; next = omega arith }
 
@@ -46,7 +46,7 @@ slice-reshare-prefix-write-all : tie.Need-slice-reshare-prefix-write-all Inv-loo
 slice-reshare-prefix-write-all c =
     let l = c .before .before .before .before .before .before .before .before .before .before .before .before .before .before .before
     .loop .inv in
-    let w = c .before .before .before .before .before .before .before .before .before .play .ensures .1
+    let w = c .before .before .before .before .before .before .before .before .before .play .ensures .1 .0
     (record { read = l .4 .read; next = omega (arith, l .3, l .4 .next) }) in
     let k = c .before .before .before .before .before .before .before .before .before .play .kept in
     search (needs, w .next)
@@ -55,7 +55,7 @@ slice-aggregate-write-all : tie.Need-slice-aggregate-write-all Inv-loop μ-loop
 slice-aggregate-write-all c =
     let l = c .before .before .before .before .before .before .before .before .before .before .before .before .before .before .before
     .before .loop .inv in
-    let w = c .before .before .before .before .before .before .before .before .before .before .play .ensures .1
+    let w = c .before .before .before .before .before .before .before .before .before .before .play .ensures .1 .0
     (record { read = l .4 .read; next = omega (arith, l .3, l .4 .next) }) in
     let k = c .before .before .before .before .before .before .before .before .before .before .play .kept in
     sym (length-take-le _ _ (omega (arith, w .next)))
@@ -79,7 +79,7 @@ returns-2 : tie.Need-returns-2 Inv-loop μ-loop
 returns-2 c =
     let l = c .before .before .before .before .before .before .before .before .before .before .before .before .before .before .before
     .before .before .before .loop .inv in
-    let w = c .before .before .before .before .before .before .before .before .before .before .before .before .play .ensures .1
+    let w = c .before .before .before .before .before .before .before .before .before .before .before .before .play .ensures .1 .0
     (record { read = l .4 .read; next = omega (arith, l .3, l .4 .next) }) in
     record { read = w .read; next = omega arith }
 
@@ -93,7 +93,7 @@ loop-again : tie.Need-loop-again Inv-loop μ-loop
 loop-again c =
     let l = c .before .before .before .before .before .before .before .before .before .before .before .before .before .before .before
     .before .before .before .loop .inv in
-    let w = c .before .before .before .before .before .before .before .before .before .before .before .before .play .ensures .1
+    let w = c .before .before .before .before .before .before .before .before .before .before .before .before .play .ensures .1 .0
     (record { read = l .4 .read; next = omega (arith, l .3, l .4 .next) }) in
     (search needs, search needs, search needs, search needs, record { read = w .read; next = omega arith })
 
