@@ -47,26 +47,25 @@ fn by_phase(
         ≡ phaseOf (processFrom (now (w .entry)) .cursor .phase) holder tick (processFrom (now (w .entry)))
         (memory (now (nodes .entry)) (now (versions .entry)) counts) ⌝ }
 {
-    let call = call_in(w);
     let c = cursor_in(w);
     let phase = c.phase;
     let used = counts.nodes;
     match phase {
-        Phase::Walk => with(walk(call, c, tick, used, nodes), counts),
+        Phase::Walk => with(walk(call_in(w), c, tick, used, nodes), counts),
         Phase::Read => with(
             read(c, tick, used, counts.versions, nodes, versions),
             counts,
         ),
-        Phase::Seek => with(seek(call, c, used, nodes), counts),
+        Phase::Seek => with(seek(call_in(w), c, used, nodes), counts),
         Phase::Lock => with(acquire(c, holder, nodes), counts),
-        Phase::Check => with(check(call, c, used, nodes), counts),
-        Phase::Update => update(call, c, counts, nodes, versions),
-        Phase::Make => make(call, c, counts, nodes, versions),
+        Phase::Check => with(check(call_in(w), c, used, nodes), counts),
+        Phase::Update => update(call_in(w), c, counts, nodes, versions),
+        Phase::Make => make(call_in(w), c, counts, nodes, versions),
         Phase::Link => with(link(c, used, nodes), counts),
         Phase::Release => {
             let e = effect_in(w);
             let preds = preds_in(w);
-            with(release(call, c, e, used, preds, nodes), counts)
+            with(release(call_in(w), c, e, used, preds, nodes), counts)
         }
     }
 }
