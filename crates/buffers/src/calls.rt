@@ -6,6 +6,7 @@ ghost use Rattle.buffers.specs.Session.{session, done, started, startOn,
 use crate::lend::asked;
 use crate::lend::table_words;
 use crate::types::Performed;
+use inspection::inspect::inspect;
 use model::types::Key;
 use model::types::StartResult;
 use model::types::State;
@@ -15,7 +16,6 @@ use printer::answer::of_open;
 use printer::answer::of_start;
 use printer::answer::of_step;
 use printer::types::Line;
-use queries::inspect::inspect;
 use queries::look::look;
 use store::open::open;
 use store::start::start_get;

@@ -1,6 +1,7 @@
 // Look, inspection and standing: the state is decoded, and nothing is written.
 ghost use mathlib.Core.Path.{_≡_};
 ghost use Rattle.lent.specs.Calls.{lookIn, inspectIn, statusIn};
+use inspection::inspect::inspect;
 use layout::state::is_state;
 use layout::state::state_in;
 use model::types::Inspecting;
@@ -8,7 +9,6 @@ use model::types::Key;
 use model::types::Looking;
 use model::types::Refusal;
 use model::types::Status;
-use queries::inspect::inspect;
 use queries::look::look;
 use queries::status::status;
 

@@ -18,7 +18,7 @@ use model::types::Phase;
 use model::types::Version;
 use tables::nodes::ahead;
 use tables::nodes::newest_at;
-use tables::versions::version_at;
+use versiontable::versions::version_at;
 
 // One level down, or the end of the walk; `found` is the node that has the key, or 0.
 fn descend(call: Call, c: Cursor, tick: u32, found: u32) -> Move

@@ -8,7 +8,6 @@ use Rattle.model.specs.declared.types.State.{State}
 use Rattle.model.specs.declared.types.Permit.the-variants.{Granted}
 use Rattle.model.specs.State.{lawfulStore}
 use Rattle.model.specs.Calls.{lookPermit}
-use Rattle.model.specs.Inspection.{inspectPermit}
 use Rattle.model.proofs.Laws.{granted-iff}
 use Rattle.refusals.proofs.Laws.{lawful-store}
 use Rattle.tables.specs.Room.{Lent}
@@ -22,7 +21,3 @@ module _ (s : State) (nodes versions : List ℕ) where
   pub look-lent : (key : ℕ) → lookPermit s nodes versions key ≡ Granted → Lent nodes versions (s .counts)
   unfolding lookPermit
   look-lent key h = lent (not-false _ ((simp granted-iff at h) .0))
-
-  pub inspect-lent : inspectPermit s nodes versions ≡ Granted → Lent nodes versions (s .counts)
-  unfolding inspectPermit
-  inspect-lent h = lent (not-false _ ((simp granted-iff at h) .0))

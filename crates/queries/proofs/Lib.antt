@@ -1,4 +1,2 @@
 pub mod LookTurns
-pub mod ChainTurns
-pub mod LevelTurns
 pub mod Granted

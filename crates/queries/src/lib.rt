@@ -1,6 +1,3 @@
-// The calls that change nothing: look, inspect and status.
-mod chain;
-mod faults;
-pub mod inspect;
+// The calls that change nothing and read a part of the store: look and status.
 pub mod look;
 pub mod status;

@@ -12,8 +12,8 @@ use model::types::State;
 use refusals::permit::look_permit;
 use tables::nodes::key_at;
 use tables::nodes::newest_at;
-use tables::versions::prev_at;
-use tables::versions::version_at;
+use versiontable::versions::prev_at;
+use versiontable::versions::version_at;
 
 // The first node that has the key, or 0; `used` is the last node in use.
 fn find(nodes: &[u32], used: u32, key: Key) -> u32

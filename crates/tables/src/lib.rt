@@ -1,4 +1,4 @@
-// The words of the two lent tables. Every read and write of the store goes through these functions.
+// The words of the lent node table, and both tables as an opening leaves them. Every read and write of a node goes through these
+// functions.
 pub mod fresh;
 pub mod nodes;
-pub mod versions;

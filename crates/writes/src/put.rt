@@ -24,9 +24,9 @@ use tables::nodes::nodes_full;
 use tables::nodes::set_newest;
 use tables::nodes::set_next;
 use tables::nodes::write_node;
-use tables::versions::timestamp_at;
-use tables::versions::versions_full;
-use tables::versions::write_version;
+use versiontable::versions::timestamp_at;
+use versiontable::versions::versions_full;
+use versiontable::versions::write_version;
 
 // The call's version in front of a node's.
 fn add_version(

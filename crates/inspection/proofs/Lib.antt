@@ -1,0 +1,3 @@
+pub mod ChainTurns
+pub mod LevelTurns
+pub mod Granted
