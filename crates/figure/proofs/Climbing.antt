@@ -11,11 +11,11 @@ use native.Mathlib.Omega.{arith}
 use lib.Dec.{T, eqb, leb, ltb, leb→le, ltb→lt}
 use lib.ListN.{getD}
 use Rattle.model.specs.Choice.{if_then_else_}
-use Rattle.model.specs.Layout.{Memory, topLevel, next, lock, key}
+use Rattle.model.specs.Layout.{Memory, topLevel, next, lock}
 use Rattle.model.specs.Numbers.{noVersion}
 use Rattle.model.specs.Phases.{moved, at, ended, usedNode, ahead, checkBy, addLink, linkOf, rise, released, freed, releaseOf, noEffect, lawfulAt, phaseOf, transitionOf}
 use Rattle.model.specs.Calls.{processAfter}
-use Rattle.model.specs.Roles.{isNew, fromPut}
+use Rattle.model.specs.Roles.{fromPut}
 use Rattle.model.proofs.Tests.{if-yes, if-no, by-test, ne→neqb}
 use Rattle.model.proofs.Words.{word-node}
 use Rattle.linearizability.proofs.Invariant.{Ghost, Nodes}

@@ -13,7 +13,6 @@ use Rattle.model.specs.Layout.{Memory, topLevel, lock}
 use Rattle.model.specs.Map.{Map}
 use Rattle.model.specs.Phases.{moved, ownVersion, rise, released, freed, releaseOf, lawfulAt, phaseOf, transitionOf}
 use Rattle.model.specs.Calls.{begun}
-use Rattle.model.specs.Roles.{isNew, fromPut}
 use Rattle.model.proofs.Tests.{if-yes, if-no, by-eq}
 use Rattle.model.proofs.Words.{word-same, word-other}
 use Rattle.linearizability.proofs.Invariant.{Ghost, Nodes, Book}

@@ -5,7 +5,6 @@ use mathlib.Core.Path.{_≡_, refl, sym, _∙_}
 use native.Mathlib.Omega.{arith}
 use borrow.Author.Tests.{leb-true}
 use Rattle.model.specs.Layout.{limits, lock}
-use Rattle.model.specs.Roles.{isIdle}
 use Rattle.model.specs.State.{lawfulKey}
 use Rattle.model.specs.Calls.{Store, standing, topOf}
 use Rattle.model.proofs.Tests.{by-le}

@@ -26,7 +26,7 @@ use Rattle.calls.proofs.Laws.{stays, moves, step-stays, step-moves}
 use Rattle.process.specs.Numbers.{kindOf}
 use Rattle.process.specs.ProcessWords.{sizes, processWords}
 use Rattle.layout.specs.StateWords.{stateWords, stateFrom, knownHead, isState, isStateAt, startOf, putEvent}
-use Rattle.layout.proofs.Laws.{process-at, state-facts, state-back, putProcess, event-words}
+use Rattle.layout.proofs.Laws.{process-at, state-facts, state-back, event-words}
 use Rattle.layout.proofs.Known.{by-none}
 use Rattle.layout.proofs.Whole.{put-part}
 use Rattle.layout.proofs.Written.{header-at, written-same, written-over}

@@ -10,6 +10,7 @@ use layout::head::HeadOffsets;
 use layout::state::counts_in;
 use layout::state::is_head;
 use layout::state::is_state_at;
+use limits::lawful::lawful_store;
 use model::types::Kind;
 use model::types::Permit;
 use model::types::Refusal;
@@ -17,7 +18,6 @@ use model::types::State;
 use model::types::Stepping;
 use process::numbers::kind_of;
 use process::types::Sizes;
-use refusals::lawful::lawful_store;
 use refusals::permit::step_permit;
 use transition::step::transition;
 

@@ -5,7 +5,7 @@ use mathlib.Core.Path.{_≡_, refl, sym, ap, _∙_}
 use native.Mathlib.Omega.{arith}
 use lib.ListN.{length}
 use Rattle.linearizability.specs.Types.{Cursor, Process}
-use Rattle.model.specs.Layout.{Memory, nodeWords, capacity, word, key, newest, top, next, lock}
+use Rattle.model.specs.Layout.{Memory, nodeWords, capacity, word, key, top, next, lock}
 use Rattle.model.specs.Map.{Map}
 use Rattle.model.specs.Phases.{maxNodes, withHolder}
 use Rattle.model.proofs.Tests.{by-eq}

@@ -7,11 +7,11 @@ use native.Mathlib.Omega.{arith}
 use native.Mathlib.Numerals.{add-one}
 use lib.ListN.{getD}
 use Rattle.linearizability.specs.Types.{Phase, Seek, Lock, Check, Update, Make, Link, Class, Inserted, OtherPut, Hit, Miss, Call, Cursor, Process, Ahead, Unused, Less, Equal, Past, Move, Wait, Go, End}
-use Rattle.model.specs.Layout.{Memory, topLevel, key, top, next, lock}
+use Rattle.model.specs.Layout.{Memory, topLevel, top, next, lock}
 use Rattle.model.specs.Map.{Map}
 use Rattle.model.specs.Phases.{Moved, at, ownVersion, ahead, withHolder, lockOf, checkBy, checkOf, rise, released, freed, releaseOf}
 use Rattle.model.specs.Calls.{processAfter}
-use Rattle.model.specs.Roles.{classOf, isNew}
+use Rattle.model.specs.Roles.{classOf}
 use Rattle.model.proofs.Tests.{if-eq, if-le, if-lt}
 use Rattle.linearizability.proofs.Invariant.{Ghost, Nodes, Book, At, PlacedOf, Made, Stage, StageOf, Settled, SettledOf, HoldsOf, Puts, Fits, fits-at, Climbs}
 use Rattle.linearizability.proofs.Frame.{Grown, Frame, placed-kept, stage-of-kept, stage-kept}

@@ -7,8 +7,8 @@ use mathlib.Core.Path.{_≡_, refl, sym, ap, _∙_, subst}
 use native.Mathlib.Omega.{arith}
 use lib.Dec.{eqb}
 use lib.ListN.{length}
-use Rattle.linearizability.specs.Types.{Idle, Phase, Walk, Read, Seek, Lock, Check, Update, Make, Link, Release, Answer, Cursor, Process, Ahead, Unused, Less, Equal, Past, Move, Refuse, Wait, Go, Note, Commit, End}
-use Rattle.model.specs.Layout.{Memory, topLevel, word, key, newest, next, lock, timestamp, withWord}
+use Rattle.linearizability.specs.Types.{Idle, Phase, Walk, Read, Seek, Lock, Check, Update, Make, Link, Release, Answer, Cursor, Process, Ahead, Unused, Less, Equal, Past, Move, Refuse, Wait, Go}
+use Rattle.model.specs.Layout.{Memory, topLevel, word, newest, next, lock, timestamp, withWord}
 use Rattle.model.specs.Phases.{Moved, moved, refuses, at, aheadOf, usedNode, usedVersion, maxNodes, maxVersions, withHolder, lockOf, checked, checkBy, checkOf, committed, addVersion, updateNode, updateAt, updateOf, addNode, makeOf, addLink, linkOf, released, freed, releaseOf, walkOf, readOf, seekOf, lawfulProcess, phaseOf, transitionOf}
 use Rattle.model.specs.Calls.{processAfter}
 use Rattle.model.proofs.Laws.{refused-is}

@@ -12,10 +12,9 @@ use Rattle.model.specs.Layout.{Memory, nodeWords, versionWords, limits, capacit
 use Rattle.model.specs.Map.{held}
 use Rattle.model.specs.Numbers.{placeOf}
 use Rattle.model.specs.State.{idleProcess, noProcess, freshState, within, lawfulLength, lawfulNodes, lawfulVersions}
-use Rattle.model.specs.Calls.{openDue, openPermit, Opened, openBy, openOf, Store}
+use Rattle.model.specs.Calls.{openDue, openPermit, openBy, openOf, Store}
 use Rattle.model.specs.ByValue.{freshStore}
 use Rattle.model.specs.Linearizability.{countedAt}
-use Rattle.model.specs.Roles.{isIdle}
 use Rattle.model.proofs.Tests.{if-by, and→, by-le}
 use Rattle.model.proofs.Words.{filled, zero-key, length-word, word-same, word-other}
 use Rattle.linearizability.proofs.Level.{Level}

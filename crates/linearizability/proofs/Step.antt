@@ -9,11 +9,11 @@ use lib.Dec.{T, leb, le→leb}
 use lib.ListN.{length, getD, set, length-set}
 use lib.Seq.{getD-set-same, getD-set-other}
 use Rattle.linearizability.specs.Types.{Kind, Idle, Put, Get, Walk, Read, Seek, Lock, Searching, Answer, Found, None, Inserted, Miss, Call, Cursor, Process, Version, Ahead, Unused, Less, Equal, Past, Move, Refuse, Wait, Go, Note, Commit, End}
-use Rattle.model.specs.Layout.{Memory, key, newest, top, next, versionAt}
+use Rattle.model.specs.Layout.{Memory, key, newest, next, versionAt}
 use Rattle.model.specs.Map.{Map, versionsOf, putIn, answered, getBy, getFrom}
 use Rattle.model.specs.Numbers.{noVersion}
 use Rattle.model.specs.State.{idleProcess}
-use Rattle.model.specs.Roles.{isIdle, isPut, isGet, plays, classOf}
+use Rattle.model.specs.Roles.{isPut, isGet, plays, classOf}
 use Rattle.model.specs.Phases.{Moved, at, ownVersion, usedVersion, maxNodes, maxVersions, ahead, walked, descend, walkBy, walkOf, readOf, seekBy, seekOf}
 use Rattle.model.specs.Calls.{processAfter}
 use Rattle.model.proofs.Tests.{if-by, if-eq, if-lt, by-eq, →and, T-absurd}

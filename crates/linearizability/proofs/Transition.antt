@@ -5,7 +5,7 @@ use mathlib.Core.Logic.{_≢_}
 use mathlib.Core.Path.{_≡_, sym, subst}
 use native.Mathlib.Omega.{arith}
 use lib.Dec.{T, eqb, leb, le→leb}
-use Rattle.linearizability.specs.Types.{Kind, Idle, Put, Get, Phase, Walk, Read, Seek, Lock, Check, Update, Make, Link, Release, Role, Searching, Class, Inserted, OtherPut, Hit, Miss, None, Process}
+use Rattle.linearizability.specs.Types.{Idle, Phase, Walk, Read, Seek, Lock, Check, Update, Make, Link, Release, Class, Inserted, OtherPut, Hit, Miss, None, Process}
 use Rattle.model.specs.Layout.{Memory, topLevel}
 use Rattle.model.specs.Map.{Map}
 use Rattle.model.specs.Phases.{noEffect, lawfulEffect, lawfulAt, lawfulProcess, phaseOf, transitionOf}

@@ -10,7 +10,7 @@ use lib.ListN.{length, getD, set, length-set}
 use lib.Seq.{getD-set-same, getD-set-other}
 use Rattle.linearizability.specs.Types.{Release, Answer, TooOld, VersionsFull, Added, None, Call, Cursor, Process, Version}
 use Rattle.model.specs.Choice.{if_then_else_}
-use Rattle.model.specs.Layout.{Memory, versionWords, capacity, word, field, key, newest, top, next, timestamp, withNewest, withVersion}
+use Rattle.model.specs.Layout.{Memory, versionWords, capacity, word, field, key, newest, next, timestamp, withNewest, withVersion}
 use Rattle.model.specs.Map.{Map, held, pushed, answered, putBy, putIn}
 use Rattle.model.specs.Phases.{ownVersion, usedNode, usedVersion, maxNodes, maxVersions, committed, addVersion, updateNode, updateAt, updateOf}
 use Rattle.model.specs.Calls.{processAfter}

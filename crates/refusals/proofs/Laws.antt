@@ -1,13 +1,12 @@
 -- Laws of the refusals: what a test tells, and what a call that is not refused may go by.
-use Prim.Native.Nat.{ℕ, zero, suc, _+_, _-_, _*_, _/_, _≤_, _<_}
+use Prim.Native.Nat.{ℕ, zero, suc, _+_, _-_, _*_, _≤_, _<_}
 use mathlib.Core.Bool.{Bool, true, false, not, _&&_, and-eq-true-iff}
 use mathlib.Core.List.{List, [], _∷_}
 use mathlib.Core.Path.{_≡_, refl, sym, _∙_}
-use native.Mathlib.Nat.{div-add-mod, div-le-of-le-mul, le-div-iff-mul-le, mul-le-mul-left}
 use native.Mathlib.Numerals.{unary-clauses}
 use native.Mathlib.Omega.{arith}
 use borrow.Author.Tests.{leb-false, eqb-true, not-false}
-use lib.Dec.{leb, ltb, eqb}
+use lib.Dec.{leb, eqb}
 use lib.ListN.{length}
 use Rattle.model.specs.declared.types.Kind.{Kind}
 use Rattle.model.specs.declared.types.Permit.{Permit}
@@ -16,18 +15,13 @@ use Rattle.model.specs.declared.types.Refusal.{Refusal}
 use Rattle.model.specs.declared.types.Refusal.the-variants.{Corrupt, NoProcess, BadKey, Busy, NoCall, Spent}
 use Rattle.model.specs.declared.types.State.{State}
 use Rattle.model.specs.Layout.{limits, nodeWords, versionWords, capacity}
-use Rattle.model.specs.State.{processAt, within, lawfulKey, lawfulNodes, lawfulVersions, lawfulLength, lawfulState, lawfulStore}
+use Rattle.model.specs.State.{processAt, lawfulKey, lawfulNodes, lawfulVersions, lawfulLength, lawfulState, lawfulStore}
 use Rattle.model.specs.Calls.{denyIf, noSuch, spent, openDue, openPermit, startPermit, Store, stepPermit, statusPermit}
 use Rattle.model.specs.Inspection.{idleBelow}
 use Rattle.model.specs.Roles.{isIdle}
 use Rattle.model.proofs.Laws.{granted-iff}
 use Rattle.model.proofs.Tests.{leb-iff, eqb-iff}
 use Rattle.refusals.specs.Order.{orElse}
-
--- one test that fails is enough
-pub and-false : (b : Bool) → (b && false) ≡ false
-and-false true = refl
-and-false false = refl
 
 -- a refusal and whether its condition is met
 pub record Condition : Type 0 where
@@ -58,38 +52,6 @@ first-by false r cs e = e
 pub first-met : (cs : List Condition) → forwards Granted cs ≡ nested cs
 first-met [] = refl
 first-met (c ∷ cs) = first-by (c .met) (c .refusal) cs (first-met cs)
-
--- four tests after others, taken two by two: the first with the third
-pub in-pairs : (before a b c d : Bool) → before && a && b && c && d ≡ before && (a && c) && (b && d)
-in-pairs false a b c d = refl
-in-pairs true false b c d = refl
-in-pairs true true false c d = sym (and-false c)
-in-pairs true true true c d = refl
-
--- two tests are equal where each follows from the other
-same-test : (a b : Bool) → (a ≡ true → b ≡ true) → (b ≡ true → a ≡ true) → a ≡ b
-same-test true b f g = sym (f refl)
-same-test false true f g = g refl
-same-test false false f g = refl
-
--- where the quotient's product is the length, no remainder is left, and bounds on the one are bounds on the other
-pub one-division : (words most n used : ℕ) → 0 < words
-    → within 2 (most + 1) (n / words) && eqb (words * (n / words)) n && ltb used (n / words)
-    ≡ lawfulLength words most n && leb used (capacity words n)
-unfolding lawfulLength capacity
-one-division words most n used some =
-    let whole = div-add-mod n words in
-    same-test _ _
-    (λ h.
-    let f = simp (and-eq-true-iff, leb-iff, eqb-iff) at h in
-    let most-words = mul-le-mul-left words (f .0 .0 .1) in
-    simp (and-eq-true-iff, leb-iff, eqb-iff)
-    ((((le-div-iff-mul-le some) .0 (f .0 .0 .0), omega arith), omega arith), omega arith))
-    (λ h.
-    let f = simp (and-eq-true-iff, leb-iff, eqb-iff) at h in
-    let two = (le-div-iff-mul-le some) .1 (f .0 .0 .0) in
-    let few = div-le-of-le-mul words (f .0 .0 .1) in
-    simp (and-eq-true-iff, leb-iff, eqb-iff) (((two, omega arith), omega arith), omega arith))
 
 -- one process less
 pub idle-more : (s : State) (n : ℕ) → 0 < n

@@ -1,3 +1,2 @@
-// The refusals of every call, in document 01's order, by value.
-pub mod lawful;
+// The refusals of each call, in order, on the state's header.
 pub mod permit;

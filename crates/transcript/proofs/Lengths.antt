@@ -7,7 +7,7 @@ use mathlib.Core.Path.{_≡_, refl, _∙_}
 use lib.Dec.{eqb, ltb, leb}
 use lib.ListN.{length, take, replicate, length-replicate}
 use lib.Seq.{length-front}
-use Rattle.model.specs.Layout.{Memory, limits, nodeWords, versionWords, topLevel, newest, next, lock, timestamp, freshNodes}
+use Rattle.model.specs.Layout.{Memory, nodeWords, versionWords, topLevel, newest, next, lock, timestamp, freshNodes}
 use Rattle.model.specs.State.{memoryOf}
 use Rattle.model.specs.Phases.{Moved, moved, refuses, usedNode, usedVersion, maxNodes, maxVersions, withHolder, aheadOf, lockOf, checkBy}
 use Rattle.model.specs.Phases.{checkOf, addVersion, updateNode, updateAt, updateOf, addNode, makeOf, addLink, linkOf, freed}
@@ -18,9 +18,9 @@ use Rattle.model.proofs.Tests.{if-by}
 use Rattle.model.proofs.Words.{length-word, length-node, length-version}
 use Rattle.buffers.specs.Session.{Session, Done, lent, tableWords, openOn, callOn}
 use Rattle.executor.specs.Perform.{opens, performOf}
-use Rattle.transcript.specs.Types.{Command, Open, Put, Get, Step, Look, Inspect, Permit, Granted, Denied, Answer, Call, Cursor, Process}
+use Rattle.transcript.specs.Types.{Command, Open, Put, Get, Step, Look, Inspect, Permit, Granted, Denied, Call, Cursor, Process}
 use Rattle.transcript.specs.Types.{Phase, Walk, Read, Seek, Lock, Check, Update, Make, Link, Release}
-use Rattle.transcript.specs.Types.{Ahead, Unused, Less, Equal, Past, Move, Refuse, Wait, Go, Note, Commit, End}
+use Rattle.transcript.specs.Types.{Ahead, Unused, Less, Equal, Past, Move}
 use Rattle.transcript.specs.BySheet.{BufferLengths}
 use Rattle.transcript.specs.Sheets.{performedAll}
 

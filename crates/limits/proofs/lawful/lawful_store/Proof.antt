@@ -6,8 +6,8 @@ use borrow.Author.Tests.{not-true, not-false, eq-eqb, ne-eqb}
 use Rattle.model.specs.State.{lawfulStore}
 use Rattle.layout.specs.Head.{headerOffsets}
 use borrow.Author.Needs.{needs}
-use Rattle.refusals.proofs.lawful.lawful_store.Statement.{statement}
-use Rattle.refusals.proofs.lawful.lawful_store.Tie as tie
+use Rattle.limits.proofs.lawful.lawful_store.Statement.{statement}
+use Rattle.limits.proofs.lawful.lawful_store.Tie as tie
 
 lawful-state-requires : tie.Need-lawful-state-requires
 lawful-state-requires c κs = search needs

@@ -9,10 +9,10 @@ use borrow.Author.Tests.{not-true, not-false, le-leb, lt-leb, eq-eqb, ne-eqb}
 use Rattle.model.specs.Layout.{limits, nodeWords, versionWords, capacity}
 use Rattle.model.specs.State.{within, lawfulNodes, lawfulVersions, lawfulState}
 use Rattle.layout.specs.Head.{bit, headerOffsets}
-use Rattle.refusals.proofs.Laws.{and-false, in-pairs}
+use Rattle.limits.proofs.Laws.{and-false, in-pairs}
 use borrow.Author.Needs.{needs}
-use Rattle.refusals.proofs.lawful.lawful_state.Statement.{statement}
-use Rattle.refusals.proofs.lawful.lawful_state.Tie as tie
+use Rattle.limits.proofs.lawful.lawful_state.Statement.{statement}
+use Rattle.limits.proofs.lawful.lawful_state.Tie as tie
 
 -- what the tests of a table read of the header
 abbrev nodesFit : List ℕ → Bool

@@ -4,9 +4,9 @@ use native.Mathlib.Nat.{mul-div-le}
 use native.Mathlib.Omega.{arith}
 use borrow.Author.Tests.{not-true, not-false, eq-eqb, ne-eqb}
 use borrow.Author.Needs.{needs}
-use Rattle.refusals.proofs.Laws.{one-division}
-use Rattle.refusals.proofs.lawful.holds.Statement.{statement}
-use Rattle.refusals.proofs.lawful.holds.Tie as tie
+use Rattle.limits.proofs.Laws.{one-division}
+use Rattle.limits.proofs.lawful.holds.Statement.{statement}
+use Rattle.limits.proofs.lawful.holds.Tie as tie
 
 div-all : tie.Need-div-all
 div-all c = search needs
