@@ -56,7 +56,7 @@ pub record Settles (m : Memory) (i q : ℕ) (o : Inserted) : Type 0 where
   pub answer : Plain (o .answer)
   pub same : o .memory .counts .nodes ≡ m .counts .nodes
   pub size : length (o .memory .nodes) ≡ length (m .nodes)
-  pub locks : (l x : ℕ) → l ≤ 5 → lock (o .memory .nodes) l x ≡ lock (acquire alone i m q 0 .nodes) l x
+  pub locks : (l x : ℕ) → l ≤ topLevel → lock (o .memory .nodes) l x ≡ lock (acquire alone i m q 0 .nodes) l x
 
 abbrev pub make-cursor : (q : ℕ) → Cursor
 make-cursor q = record { phase = Make; level = 0; pred = q; made = 0 }

@@ -11,7 +11,7 @@ use native.Mathlib.Omega.{arith}
 use lib.Dec.{T, eqb, leb, ltb, leb→le, ltb→lt}
 use lib.ListN.{getD}
 use Rattle.model.specs.Choice.{if_then_else_}
-use Rattle.model.specs.Layout.{Memory, topLevel, next, lock}
+use Rattle.model.specs.Layout.{Memory, topLevel, next, lock, levels}
 use Rattle.model.specs.Numbers.{noVersion}
 use Rattle.model.specs.Phases.{moved, at, ended, usedNode, ahead, checkBy, addLink, linkOf, rise, released, freed, releaseOf, noEffect, lawfulAt, phaseOf, transitionOf}
 use Rattle.model.specs.Calls.{processAfter}
@@ -45,7 +45,7 @@ module _ {call : Call} (P : Asked Put call) (i : ℕ) (preds : List ℕ) (made e
   abbrev pub releases : (l q : ℕ) → Process
   releases l q = pose call Release l q preds made New effect
 
-  pub release-transition : (m : Memory) (l q tick : ℕ) → l ≤ 5 → q ≤ m .counts .nodes
+  pub release-transition : (m : Memory) (l q tick : ℕ) → l ≤ topLevel → q ≤ m .counts .nodes
       → transitionOf (i + 1) tick (releases l q) m
       ≡ freed (releases l q .cursor) m (rise call (releases l q .cursor) preds m (ended call New noVersion effect))
   unfolding phaseOf releaseOf released lawfulAt

@@ -6,7 +6,7 @@ use mathlib.Core.Path.{_≡_, refl, sym, ap, _∙_, subst}
 use native.Mathlib.Omega.{arith}
 use lib.Dec.{T}
 use lib.ListN.{length}
-use Rattle.model.specs.Layout.{Memory}
+use Rattle.model.specs.Layout.{Memory, levels}
 use Rattle.model.specs.Map.{Map, PutResult, putIn, answered, getFrom}
 use Rattle.model.specs.Phases.{Moved, ownVersion, maxNodes, maxVersions}
 use Rattle.model.specs.Calls.{begun, processAfter}
@@ -156,7 +156,7 @@ module _ {m : Memory} {g : Ghost} {b : Map} (N : Nodes m g) (B : Book m b) {kind
     memo = λ j h. rw (filled {A = ℕ} 6 j 0) (at j h);
   }
     where
-      at : (j : ℕ) → j < 6 → At m g j 0 (call .key)
+      at : (j : ℕ) → j < levels → At m g j 0 (call .key)
       at j h = record { used = omega arith; up = omega (arith, N .head-high); low = omega (arith, N .head-key, P .key-low) }
 
   module _ {start n : ℕ} {left : Memory} {a : Answer} {v : Version} {e : ℕ}

@@ -6,7 +6,7 @@ use mathlib.Core.Logic.{_≢_}
 use mathlib.Core.Path.{_≡_, refl, sym, ap, _∙_, subst}
 use native.Mathlib.Omega.{arith}
 use lib.Dec.{T, eqb, leb}
-use Rattle.model.specs.Layout.{Memory, key, next, lock, withWord}
+use Rattle.model.specs.Layout.{Memory, key, next, lock, withWord, topLevel}
 use Rattle.model.specs.Phases.{moved, at, ahead, seekBy, seekOf, lockOf, checkBy, checkOf, noEffect, lawfulAt, phaseOf, transitionOf}
 use Rattle.model.specs.Calls.{processAfter}
 use Rattle.model.specs.Roles.{roleOf, fromPut}
@@ -28,7 +28,7 @@ key-kept m m′ y e = by-eq y tail
 
 -- q is in use on level l, and its link there leads to k or past it: where findLock takes the lock
 pub record Ready (m : Memory) (k l q : ℕ) : Type 0 where
-  pub level : l ≤ 5
+  pub level : l ≤ topLevel
   pub used : q ≤ m .counts .nodes
   pub linked : next (m .nodes) l q ≢ 0 → next (m .nodes) l q ≤ m .counts .nodes
   pub stop : T (leb k (keyOf m (next (m .nodes) l q)))
@@ -52,7 +52,7 @@ module _ {call : Call} (P : Asked Put call) (i made : ℕ) (a : Answer) (e : ℕ
   unfolding lawfulAt
   lawful-at ph w = rw w lawful
 
-  pub work-transition : (m : Memory) (ph : Phase) (l q : ℕ) (preds : List ℕ) → Works ph → l ≤ 5 → q ≤ m .counts .nodes → (tick : ℕ)
+  pub work-transition : (m : Memory) (ph : Phase) (l q : ℕ) (preds : List ℕ) → Works ph → l ≤ topLevel → q ≤ m .counts .nodes → (tick : ℕ)
       → transitionOf (i + 1) tick (pose call ph l q preds made a e) m ≡ phaseOf ph (i + 1) tick (pose call ph l q preds made a e) m
   work-transition m ph l q preds w l5 used tick = transition-is (i + 1) tick (pose call ph l q preds made a e) m l5 used
       (subst (λ kind. T (lawfulAt kind (roleOf ph) (record { answer = a; tick = e }))) (sym (P .kind-is)) (lawful-at ph w))

@@ -267,7 +267,7 @@ module _ {m : Memory} {g : Ghost} {b : Map} (N : Nodes m g) (B : Book m b) {call
     -- ---- its locks are free again
 
     abbrev LocksKept : Memory → Type 0
-    LocksKept M = (l x : ℕ) → l ≤ 5 → (x ≤ m .counts .nodes → lock (M .nodes) l x ≡ lock (m .nodes) l x)
+    LocksKept M = (l x : ℕ) → l ≤ topLevel → (x ≤ m .counts .nodes → lock (M .nodes) l x ≡ lock (m .nodes) l x)
         × (m .counts .nodes < x → x ≤ M .counts .nodes → lock (M .nodes) l x ≡ 0)
 
     settled-locks : Settles m i (path 0) o → LocksKept (release (o .memory) (path 0) 0)

@@ -6,7 +6,7 @@ use mathlib.Core.Logic.{_≢_}
 use mathlib.Core.Path.{_≡_, refl, sym, _∙_}
 use native.Mathlib.Omega.{arith}
 use lib.ListN.{length, getD}
-use Rattle.model.specs.Layout.{Memory, nodeWords, word, withWord, key, next, lock, withNode, nodeRecord}
+use Rattle.model.specs.Layout.{Memory, nodeWords, word, withWord, key, next, lock, withNode, nodeRecord, levels, topLevel}
 use Rattle.model.specs.Phases.{maxNodes, addNode, addLink}
 use Rattle.model.proofs.Tests.{by-eq}
 use Rattle.model.proofs.Words.{same-key, written-key, length-word, word-same, word-field, word-node, length-node, node-in, node-out, node-locks}
@@ -20,9 +20,9 @@ pub record Risen (m M : Memory) (k l : ℕ) : Type 0 where
   pub room : nodeWords * (m .counts .nodes + 1) + nodeWords ≤ length (m .nodes)
   pub keys : (x : ℕ) → x ≤ m .counts .nodes → key (M .nodes) x ≡ key (m .nodes) x
   pub key-is : key (M .nodes) (m .counts .nodes + 1) ≡ k
-  pub links : (j x : ℕ) → l < j → j ≤ 5 → x ≤ m .counts .nodes → next (M .nodes) j x ≡ next (m .nodes) j x
-  pub locks : (j x : ℕ) → j ≤ 5 → x ≤ m .counts .nodes → lock (M .nodes) j x ≡ lock (m .nodes) j x
-  pub own-locks : (j : ℕ) → j ≤ 5 → lock (M .nodes) j (m .counts .nodes + 1) ≡ 0
+  pub links : (j x : ℕ) → l < j → j ≤ topLevel → x ≤ m .counts .nodes → next (M .nodes) j x ≡ next (m .nodes) j x
+  pub locks : (j x : ℕ) → j ≤ topLevel → x ≤ m .counts .nodes → lock (M .nodes) j x ≡ lock (m .nodes) j x
+  pub own-locks : (j : ℕ) → j ≤ topLevel → lock (M .nodes) j (m .counts .nodes + 1) ≡ 0
 
 -- ---- the node is made at the bottom
 
@@ -92,7 +92,7 @@ module _ (m : Memory) (call : Call) (i q : ℕ) (size : length (m .nodes) ≡ no
 
 -- ---- it is linked one level higher
 
-module _ (m M : Memory) (k l i p : ℕ) (R : Risen m M k l) (l5 : suc l ≤ 5) (used : p ≤ m .counts .nodes)
+module _ (m M : Memory) (k l i p : ℕ) (R : Risen m M k l) (l5 : suc l ≤ topLevel) (used : p ≤ m .counts .nodes)
     (free : lock (m .nodes) (suc l) p ≡ 0) where
   abbrev n : ℕ
   n = m .counts .nodes + 1

@@ -7,7 +7,7 @@ use native.Mathlib.Nat.{add-zero}
 use native.Mathlib.Omega.{arith}
 use lib.ListN.{length, set}
 use lib.Seq.{sets, set-set, set-comm, set-getD}
-use Rattle.model.specs.Layout.{Memory, nodeWords, word, withWord, next, lock, withNext, withLock, withNode, withVersion, nodeRecord}
+use Rattle.model.specs.Layout.{Memory, nodeWords, word, withWord, next, lock, withNext, withLock, withNode, withVersion, nodeRecord, topLevel}
 use Rattle.model.specs.Phases.{ownVersion, addNode, addLink}
 use Rattle.model.proofs.Words.{word-field, node-out}
 use Rattle.figure.specs.Types.{Call, Cursor}
@@ -46,7 +46,7 @@ unfolding word withWord
 same-word t x f e = ap (λ (v : ℕ). set t (nodeWords * x + f) v) (sym e) ∙ set-getD t (nodeWords * x + f) 0
 
 -- above the bottom
-pub link-is : (c : Cursor) (m : Memory) → c .level ≤ 5 → lock (m .nodes) (c .level) (c .made) ≡ 0
+pub link-is : (c : Cursor) (m : Memory) → c .level ≤ topLevel → lock (m .nodes) (c .level) (c .made) ≡ 0
     → link m (c .pred) (c .level) (c .made) ≡ addLink c m
 unfolding link addLink
 link-is c m l5 free =

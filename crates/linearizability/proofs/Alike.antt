@@ -5,7 +5,7 @@ use mathlib.Core.Path.{_≡_, refl, sym, ap, _∙_}
 use native.Mathlib.Omega.{arith}
 use lib.ListN.{length}
 use Rattle.linearizability.specs.Types.{Cursor, Process}
-use Rattle.model.specs.Layout.{Memory, nodeWords, capacity, word, key, top, next, lock}
+use Rattle.model.specs.Layout.{Memory, nodeWords, capacity, word, key, top, next, lock, linkAt, lockAt, levels}
 use Rattle.model.specs.Map.{Map}
 use Rattle.model.specs.Phases.{maxNodes, withHolder}
 use Rattle.model.proofs.Tests.{by-eq}
@@ -77,31 +77,31 @@ risen-same A keep = risen-alike A (λ x h c no-more. absurd (no-more (keep x c))
 
 -- ---- a lock is written
 
-module _ (m : Memory) (g : Ghost) (N : Nodes m g) (c : Cursor) (v : ℕ) (l6 : c .level < 6) (used : c .pred ≤ m .counts .nodes)
+module _ (m : Memory) (g : Ghost) (N : Nodes m g) (c : Cursor) (v : ℕ) (l6 : c .level < levels) (used : c .pred ≤ m .counts .nodes)
   where
     abbrev m′ : Memory
     m′ = withHolder m c v
 
-    six : {j x : ℕ} → In m g j x → j < 6
+    six : {j x : ℕ} → In m g j x → j < levels
     six {j} {x} i = omega (arith, i .1, N .high x (i .0))
 
-    pub lock-field : (x f : ℕ) → f < 16 → f ≢ 10 + c .level → word (m′ .nodes) x f ≡ word (m .nodes) x f
-    lock-field x f f16 ne = word-field (m .nodes) (c .pred) x (10 + c .level) f v (omega arith) f16 ne
+    pub lock-field : (x f : ℕ) → f < nodeWords → f ≢ lockAt (c .level) → word (m′ .nodes) x f ≡ word (m .nodes) x f
+    lock-field x f f16 ne = word-field (m .nodes) (c .pred) x (lockAt (c .level)) f v (omega arith) f16 ne
 
     lock-key : (x : ℕ) → key (m′ .nodes) x ≡ key (m .nodes) x
     lock-key x = same-key (m′ .nodes) x (m .nodes) x λ f k. lock-field x f (omega arith) (omega arith)
 
     pub lock-alike : Alike m m′ g
     lock-alike = record {
-      length-is = length-word (m .nodes) (c .pred) (10 + c .level) v;
+      length-is = length-word (m .nodes) (c .pred) (lockAt (c .level)) v;
       count-is = refl;
       keys = λ x h. lock-key x;
       tops = λ x h. lock-field x 2 (omega arith) (omega arith);
-      links = λ j x i. let j6 = six i in lock-field x (4 + j) (omega arith) (omega arith);
+      links = λ j x i. let j6 = six i in lock-field x (linkAt j) (omega arith) (omega arith);
     }
 
     pub lock-set : lock (m′ .nodes) (c .level) (c .pred) ≡ v
-    lock-set = word-same (m .nodes) (c .pred) (10 + c .level) v (omega arith) (omega (arith, N .size, N .room))
+    lock-set = word-same (m .nodes) (c .pred) (lockAt (c .level)) v (omega arith) (omega (arith, N .size, N .room))
 
     pub lock-book : {b : Map} → Book m b → Book m′ b
     lock-book B = record {
@@ -117,10 +117,10 @@ module _ (m : Memory) (g : Ghost) (N : Nodes m g) (c : Cursor) (v : ℕ) (l6 : c
 
     pub lock-frame : (i : ℕ) → lock (m .nodes) (c .level) (c .pred) ≢ suc i → Frame m m′ g g i
     lock-frame i ne = frame-alike lock-alike (λ j x h e. let j6 = six h in
-        word-other (m .nodes) (c .pred) x (10 + c .level) (10 + j) v (omega arith) (omega arith)
+        word-other (m .nodes) (c .pred) x (lockAt (c .level)) (lockAt j) v (omega arith) (omega arith)
         (λ ex ej. ne (sym (same j x ex (cut ej)) ∙ e)) ∙ e)
       where
-        cut : {j : ℕ} → 10 + j ≡ 10 + c .level → j ≡ c .level
+        cut : {j : ℕ} → lockAt j ≡ lockAt (c .level) → j ≡ c .level
         cut q = omega arith
 
         same : (j x : ℕ) → x ≡ c .pred → j ≡ c .level → lock (m .nodes) j x ≡ lock (m .nodes) (c .level) (c .pred)

@@ -7,7 +7,7 @@ use mathlib.Core.Path.{_≡_}
 use lib.Dec.{T}
 use lib.ListN.{length, getD}
 use Rattle.linearizability.specs.Types.{Idle, Phase, Walk, Read, Seek, Lock, Check, Update, Make, Link, Release, Class, Inserted, OtherPut, Hit, Miss, None, Effect, Process, Version}
-use Rattle.model.specs.Layout.{Memory, nodeWords, versionWords, key, newest, top, next, lock, value, timestamp, prev}
+use Rattle.model.specs.Layout.{Memory, nodeWords, versionWords, key, newest, top, next, lock, value, timestamp, prev, levels, topLevel}
 use Rattle.model.specs.Map.{Map, held}
 use Rattle.model.specs.Roles.{isPut, isGet, roleOf, plays, classOf}
 use Rattle.model.specs.Phases.{maxNodes, maxVersions}
@@ -29,8 +29,8 @@ pub record Nodes (m : Memory) (g : Ghost) : Type 0 where
   pub size : length (m .nodes) ≡ nodeWords * maxNodes m + nodeWords
   pub room : m .counts .nodes ≤ maxNodes m
   pub head-key : key (m .nodes) 0 ≡ 0
-  pub head-high : g .high 0 ≡ 6
-  pub high : (x : ℕ) → x ≤ m .counts .nodes → (1 ≤ g .high x) × (g .high x ≤ 6)
+  pub head-high : g .high 0 ≡ levels
+  pub high : (x : ℕ) → x ≤ m .counts .nodes → (1 ≤ g .high x) × (g .high x ≤ levels)
   pub inj : (x y : ℕ) → x ≤ m .counts .nodes → y ≤ m .counts .nodes → key (m .nodes) x ≡ key (m .nodes) y → x ≡ y
   pub levels : (l : ℕ) → Level (In m g l) (key (m .nodes)) (next (m .nodes) l)
 
@@ -74,10 +74,10 @@ pub record At (m : Memory) (g : Ghost) (l p k : ℕ) : Type 0 where
 
 -- its predecessor and every remembered one (the head until set) lie before its key
 pub record Placed (m : Memory) (g : Ghost) (top : ℕ) (preds : List ℕ) (l p k : ℕ) : Type 0 where
-  pub top5 : top ≤ 5
-  pub six : length preds ≡ 6
+  pub top5 : top ≤ topLevel
+  pub six : length preds ≡ levels
   pub spot : At m g l p k
-  pub memo : (j : ℕ) → j < 6 → At m g j (getD preds j 0) k
+  pub memo : (j : ℕ) → j < levels → At m g j (getD preds j 0) k
 
 abbrev pub PlacedOf : Memory → Ghost → Process → Type 0
 PlacedOf m g pr = Placed m g (pr .call .top) (pr .preds) (pr .cursor .level) (pr .cursor .pred) (pr .call .key)

@@ -6,7 +6,7 @@ use mathlib.Core.Path.{_≡_, refl, sym, ap, _∙_, subst}
 use native.Mathlib.Omega.{arith}
 use lib.ListN.{length}
 use Rattle.linearizability.specs.Types.{Release, Inserted, Cursor, Process, Go}
-use Rattle.model.specs.Layout.{Memory, nodeWords, capacity, word, key, top, next, lock, withNext}
+use Rattle.model.specs.Layout.{Memory, nodeWords, capacity, word, key, top, next, lock, withNext, linkAt, lockAt, levels}
 use Rattle.model.specs.Map.{Map}
 use Rattle.model.specs.Phases.{at, usedNode, addLink, linkOf}
 use Rattle.model.specs.Calls.{processAfter}
@@ -30,38 +30,38 @@ module _ (m : Memory) (g : Ghost) (s lv p x k tp : ℕ) (N : Nodes m g) (a : At 
   abbrev g′ : Ghost
   g′ = record { high = changed (g .high) x (suc lv); own = g .own }
 
-  lv6 : lv < 6
+  lv6 : lv < levels
   lv6 = omega (arith, a .up, N .high p (a .used))
 
   apart : x ≢ p
   apart q = omega (arith, a .up, made .height-is, ap (g .high) q)
 
-  inside : (z : ℕ) → z ≤ m .counts .nodes → 16 * z + 16 ≤ length (m .nodes)
+  inside : (z : ℕ) → z ≤ m .counts .nodes → nodeWords * z + nodeWords ≤ length (m .nodes)
   inside z h = omega (arith, N .size, N .room)
 
   length₁ : length t₁ ≡ length (m .nodes)
-  length₁ = length-word (m .nodes) x (4 + lv) (next (m .nodes) lv p)
+  length₁ = length-word (m .nodes) x (linkAt lv) (next (m .nodes) lv p)
 
   pub nodes-length : length (m′ .nodes) ≡ length (m .nodes)
-  nodes-length = length-word t₁ p (4 + lv) x ∙ length₁
+  nodes-length = length-word t₁ p (linkAt lv) x ∙ length₁
 
-  old-word : (z f : ℕ) → f < 16 → (z ≡ p → f ≢ 4 + lv) → (z ≡ x → f ≢ 4 + lv) → word (m′ .nodes) z f ≡ word (m .nodes) z f
+  old-word : (z f : ℕ) → f < nodeWords → (z ≡ p → f ≢ linkAt lv) → (z ≡ x → f ≢ linkAt lv) → word (m′ .nodes) z f ≡ word (m .nodes) z f
   old-word z f f16 np nx =
       let l6 = lv6 in
-      word-other t₁ p z (4 + lv) f x (omega arith) f16 np
-      ∙ word-other (m .nodes) x z (4 + lv) f (next (m .nodes) lv p) (omega arith) f16 nx
+      word-other t₁ p z (linkAt lv) f x (omega arith) f16 np
+      ∙ word-other (m .nodes) x z (linkAt lv) f (next (m .nodes) lv p) (omega arith) f16 nx
 
   back-word : next (m′ .nodes) lv p ≡ x
-  back-word = let l6 = lv6 in word-same t₁ p (4 + lv) x (omega arith) (omega (arith, length₁, inside p (a .used)))
+  back-word = let l6 = lv6 in word-same t₁ p (linkAt lv) x (omega arith) (omega (arith, length₁, inside p (a .used)))
 
   front-word : next (m′ .nodes) lv x ≡ next (m .nodes) lv p
   front-word =
       let l6 = lv6 in
-      word-node t₁ p x (4 + lv) (4 + lv) x (omega arith) (omega arith) apart
-      ∙ word-same (m .nodes) x (4 + lv) (next (m .nodes) lv p) (omega arith) (inside x (made .used))
+      word-node t₁ p x (linkAt lv) (linkAt lv) x (omega arith) (omega arith) apart
+      ∙ word-same (m .nodes) x (linkAt lv) (next (m .nodes) lv p) (omega arith) (inside x (made .used))
 
   -- any word but a link of this level
-  other-word : (z f : ℕ) → f < 16 → f ≢ 4 + lv → word (m′ .nodes) z f ≡ word (m .nodes) z f
+  other-word : (z f : ℕ) → f < nodeWords → f ≢ linkAt lv → word (m′ .nodes) z f ≡ word (m .nodes) z f
   other-word z f f16 ne = old-word z f f16 (λ q. ne) (λ q. ne)
 
   keys : (z : ℕ) → key (m′ .nodes) z ≡ key (m .nodes) z
@@ -101,7 +101,7 @@ module _ (m : Memory) (g : Ghost) (s lv p x k tp : ℕ) (N : Nodes m g) (a : At 
     back = back-word;
     front = front-word;
     others = λ z h ne. let l6 = lv6 in
-        old-word z (4 + lv) (omega arith) (λ q. absurd (ne q)) (λ q. omega (arith, h .1, ap (g .high) q, made .height-is));
+        old-word z (linkAt lv) (omega arith) (λ q. absurd (ne q)) (λ q. omega (arith, h .1, ap (g .high) q, made .height-is));
     inj = λ z h q. N .inj z p (h .0) (a .used) q;
   })
 
@@ -111,7 +111,7 @@ module _ (m : Memory) (g : Ghost) (s lv p x k tp : ℕ) (N : Nodes m g) (a : At 
       (λ q. (h .0, omega (arith, h .1, ap (g .high) q, ap (g′ .high) q, made .height-is, high-new)))
       (λ nx. down l z h nx))
       (up l) (λ z h. keys z)
-      (λ z h. let l6 : l < 6 = omega (arith, h .1, N .high z (h .0)) in other-word z (4 + l) (omega arith) (omega arith))
+      (λ z h. let l6 : l < levels = omega (arith, h .1, N .high z (h .0)) in other-word z (linkAt l) (omega arith) (omega arith))
 
   pub link-nodes : Nodes m′ g′
   link-nodes = record {
@@ -150,20 +150,20 @@ module _ (m : Memory) (g : Ghost) (s lv p x k tp : ℕ) (N : Nodes m g) (a : At 
 
   pub locks-old : (l z : ℕ) → In m g l z → lock (m′ .nodes) l z ≡ lock (m .nodes) l z
   locks-old l z h =
-      let l6 : l < 6 = omega (arith, h .1, N .high z (h .0)) in
+      let l6 : l < levels = omega (arith, h .1, N .high z (h .0)) in
       let v6 = lv6 in
-      other-word z (10 + l) (omega arith) (omega arith)
+      other-word z (lockAt l) (omega arith) (omega arith)
 
   pub link-frame : (j : ℕ) → j ≢ s → Frame m m′ g g′ j
   link-frame j ne = record {
     grown = link-grown j ne;
     locks = λ l z h q. locks-old l z h ∙ q;
-    links = λ l z h q. let l6 : l < 6 = omega (arith, h .1, N .high z (h .0)) in old-word z (4 + l) (omega arith)
+    links = λ l z h q. let l6 : l < levels = omega (arith, h .1, N .high z (h .0)) in old-word z (linkAt l) (omega arith)
         (λ ez el. clash l z ez (cut el) q)
         (λ ez el. let w : l ≡ lv = cut el in omega (arith, h .1, ap (g .high) ez, made .height-is));
   }
     where
-      cut : {l : ℕ} → 4 + l ≡ 4 + lv → l ≡ lv
+      cut : {l : ℕ} → linkAt l ≡ linkAt lv → l ≡ lv
       cut q = omega arith
 
       clash : (l z : ℕ) → z ≡ p → l ≡ lv → lock (m .nodes) l z ≡ suc j → ⊥

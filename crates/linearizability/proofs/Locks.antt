@@ -8,7 +8,7 @@ use native.Mathlib.Omega.{arith}
 use lib.Dec.{eqb}
 use lib.ListN.{length}
 use Rattle.linearizability.specs.Types.{Idle, Phase, Walk, Read, Seek, Lock, Check, Update, Make, Link, Release, Answer, Cursor, Process, Ahead, Unused, Less, Equal, Past, Move, Refuse, Wait, Go}
-use Rattle.model.specs.Layout.{Memory, topLevel, word, newest, next, lock, timestamp, withWord}
+use Rattle.model.specs.Layout.{Memory, topLevel, word, newest, next, lock, timestamp, withWord, nodeWords, linkAt, lockAt, nodeOffsets, levels}
 use Rattle.model.specs.Phases.{Moved, moved, refuses, at, aheadOf, usedNode, usedVersion, maxNodes, maxVersions, withHolder, lockOf, checked, checkBy, checkOf, committed, addVersion, updateNode, updateAt, updateOf, addNode, makeOf, addLink, linkOf, released, freed, releaseOf, walkOf, readOf, seekOf, lawfulProcess, phaseOf, transitionOf}
 use Rattle.model.specs.Calls.{processAfter}
 use Rattle.model.proofs.Laws.{refused-is}
@@ -35,16 +35,16 @@ pub record HoldsAt (pr : Process) (l x : ℕ) : Type 0 where
 
 -- the locks that name process i are held by it
 abbrev pub Named : Memory → ℕ → Process → Type 0
-Named m i pr = (l x : ℕ) → l < 6 → x ≤ m .counts .nodes → lock (m .nodes) l x ≡ suc i → HoldsAt pr l x
+Named m i pr = (l x : ℕ) → l < levels → x ≤ m .counts .nodes → lock (m .nodes) l x ≡ suc i → HoldsAt pr l x
 
 -- after a step of process i with move v: locks of others were theirs before, its own is the one it holds
 abbrev pub Locked : Memory → ℕ → (tick : ℕ) → Process → Moved → Type 0
-Locked m i tick pr r = (l x j : ℕ) → l < 6 → x ≤ r .memory .counts .nodes → lock (r .memory .nodes) l x ≡ suc j
+Locked m i tick pr r = (l x j : ℕ) → l < levels → x ≤ r .memory .counts .nodes → lock (r .memory .nodes) l x ≡ suc j
     → (j ≢ i → (x ≤ m .counts .nodes) × (lock (m .nodes) l x ≡ suc j)) × (j ≡ i → HoldsAt (processAfter tick pr (r .move)) l x)
 
-module _ (m : Memory) (i : ℕ) (tick : ℕ) (pr : Process) (size : length (m .nodes) ≡ 16 * maxNodes m + 16)
+module _ (m : Memory) (i : ℕ) (tick : ℕ) (pr : Process) (size : length (m .nodes) ≡ nodeWords * maxNodes m + nodeWords)
     (room : m .counts .nodes ≤ maxNodes m)
-    (nm : Named m i pr) (lv6 : pr .cursor .level < 6) (used : pr .cursor .pred ≤ m .counts .nodes) (nn : pr .call .kind ≢ Idle) where
+    (nm : Named m i pr) (lv6 : pr .cursor .level < levels) (used : pr .cursor .pred ≤ m .counts .nodes) (nn : pr .call .kind ≢ Idle) where
   abbrev c : Cursor
   c = pr .cursor
 
@@ -53,7 +53,7 @@ module _ (m : Memory) (i : ℕ) (tick : ℕ) (pr : Process) (size : length (m .n
 
   -- the same locks, and the process holds what it held
   steady : (v : Move) (m′ : Memory)
-      → ((l x : ℕ) → l < 6 → x ≤ m′ .counts .nodes → (j : ℕ) → lock (m′ .nodes) l x ≡ suc j → (x ≤ m .counts .nodes) × (lock (m .nodes) l x ≡ suc j))
+      → ((l x : ℕ) → l < levels → x ≤ m′ .counts .nodes → (j : ℕ) → lock (m′ .nodes) l x ≡ suc j → (x ≤ m .counts .nodes) × (lock (m .nodes) l x ≡ suc j))
       → ((l x : ℕ) → HoldsAt pr l x → HoldsAt (processAfter tick pr v) l x) → L (moved m′ v)
   steady v m′ back keep l x j h6 hx e =
       let q = back l x h6 hx j e in
@@ -65,14 +65,14 @@ module _ (m : Memory) (i : ℕ) (tick : ℕ) (pr : Process) (size : length (m .n
 
   -- ---- one lock word
 
-  lock-word : (v l x : ℕ) → l < 6 → x ≤ m .counts .nodes → {P : Type 0}
+  lock-word : (v l x : ℕ) → l < levels → x ≤ m .counts .nodes → {P : Type 0}
       → (l ≡ c .level → x ≡ c .pred → lock (withHolder m c v .nodes) l x ≡ v → P)
       → (¬ ((l ≡ c .level) × (x ≡ c .pred)) → lock (withHolder m c v .nodes) l x ≡ lock (m .nodes) l x → P) → P
   lock-word v l x h6 hx {P} here there = by-eq l (c .level)
       (λ el. by-eq x (c .pred)
-      (λ ex. here el ex (rw (el, ex) (word-same (m .nodes) (c .pred) (10 + c .level) v (omega arith) (omega arith))))
-      (λ nx. there (λ q. nx (q .1)) (word-node (m .nodes) (c .pred) x (10 + c .level) (10 + l) v (omega arith) (omega arith) nx)))
-      (λ nl. there (λ q. nl (q .0)) (word-field (m .nodes) (c .pred) x (10 + c .level) (10 + l) v (omega arith) (omega arith) (omega arith)))
+      (λ ex. here el ex (rw (el, ex) (word-same (m .nodes) (c .pred) (lockAt (c .level)) v (omega arith) (omega arith))))
+      (λ nx. there (λ q. nx (q .1)) (word-node (m .nodes) (c .pred) x (lockAt (c .level)) (lockAt l) v (omega arith) (omega arith) nx)))
+      (λ nl. there (λ q. nl (q .0)) (word-field (m .nodes) (c .pred) x (lockAt (c .level)) (lockAt l) v (omega arith) (omega arith) (omega arith)))
 
   lock-locked : c .phase ≡ Lock → L (lockOf c (i + 1) m)
   unfolding lockOf processAfter
@@ -122,7 +122,7 @@ module _ (m : Memory) (i : ℕ) (tick : ℕ) (pr : Process) (size : length (m .n
 
   -- a put takes effect: it holds what it held
   commits : (made : ℕ) (a : Answer) (m′ : Memory)
-      → ((l x : ℕ) → l < 6 → x ≤ m′ .counts .nodes → (j : ℕ) → lock (m′ .nodes) l x ≡ suc j → (x ≤ m .counts .nodes) × (lock (m .nodes) l x ≡ suc j))
+      → ((l x : ℕ) → l < levels → x ≤ m′ .counts .nodes → (j : ℕ) → lock (m′ .nodes) l x ≡ suc j → (x ≤ m .counts .nodes) × (lock (m .nodes) l x ≡ suc j))
       → L (moved m′ (committed c made a))
   unfolding processAfter
   commits made a m′ back =
@@ -139,7 +139,7 @@ module _ (m : Memory) (i : ℕ) (tick : ℕ) (pr : Process) (size : length (m .n
       if-lt L (pr .call .timestamp) (timestamp (m .versions) i) (λ t. unwritten (c .made) Answer.TooOld) λ t.
       if-le L (maxVersions m) (m .counts .versions) (λ t. unwritten (c .made) Answer.VersionsFull) λ t.
       commits (c .made) Answer.Added (addVersion (pr .call) x m) (λ l y h6 hy j e.
-      (hy, sym (word-field (m .nodes) x y 1 (10 + l) (m .counts .versions + 1) (omega arith) (omega arith) (omega arith)) ∙ e))
+      (hy, sym (word-field (m .nodes) x y (nodeOffsets .newest) (lockAt l) (m .counts .versions + 1) (omega arith) (omega arith) (omega arith)) ∙ e))
 
   make-locked : Holding (c .phase) → L (makeOf (pr .call) c m)
   unfolding makeOf addNode
@@ -155,18 +155,18 @@ module _ (m : Memory) (i : ℕ) (tick : ℕ) (pr : Process) (size : length (m .n
       t₁ =
           Rattle.model.specs.Layout.withNode (m .nodes) x (pr .call .key) (m .counts .versions + 1) (pr .call .top) (next (m .nodes) 0 (c .pred))
 
-      back : m .counts .nodes < maxNodes m → (l y : ℕ) → l < 6 → y ≤ x → (j : ℕ)
-          → word (withWord t₁ (c .pred) 4 x) y (10 + l) ≡ suc j
+      back : m .counts .nodes < maxNodes m → (l y : ℕ) → l < levels → y ≤ x → (j : ℕ)
+          → word (withWord t₁ (c .pred) (linkAt 0) x) y (lockAt l) ≡ suc j
           → (y ≤ m .counts .nodes) × (lock (m .nodes) l y ≡ suc j)
       back rm l y h6 hy j e =
-          let q = word-field t₁ (c .pred) y 4 (10 + l) x (omega arith) (omega arith) (omega arith) in
+          let q = word-field t₁ (c .pred) y (linkAt 0) (lockAt l) x (omega arith) (omega arith) (omega arith) in
           by-eq y x
-          (λ ey. absurd (free (subst (λ z. word t₁ z (10 + l) ≡ 0) (sym ey)
-          (node-in (m .nodes) x (pr .call .key) (m .counts .versions + 1) (pr .call .top) (next (m .nodes) 0 (c .pred)) (10 + l) (omega arith) (omega arith)
+          (λ ey. absurd (free (subst (λ z. word t₁ z (lockAt l) ≡ 0) (sym ey)
+          (node-in (m .nodes) x (pr .call .key) (m .counts .versions + 1) (pr .call .top) (next (m .nodes) 0 (c .pred)) (lockAt l) (omega arith) (omega arith)
           ∙ node-locks (pr .call .key) (m .counts .versions + 1) (pr .call .top) (next (m .nodes) 0 (c .pred)) l h6)) (sym q ∙ e)))
           (λ ny. (
             omega arith,
-            sym (node-out (m .nodes) x (pr .call .key) (m .counts .versions + 1) (pr .call .top) (next (m .nodes) 0 (c .pred)) y (10 + l) (omega arith) ny) ∙ sym q ∙ e,
+            sym (node-out (m .nodes) x (pr .call .key) (m .counts .versions + 1) (pr .call .top) (next (m .nodes) 0 (c .pred)) y (lockAt l) (omega arith) ny) ∙ sym q ∙ e,
           ))
         where
           free : {a d : ℕ} → a ≡ 0 → a ≡ suc d → ⊥
@@ -178,8 +178,8 @@ module _ (m : Memory) (i : ℕ) (tick : ℕ) (pr : Process) (size : length (m .n
       (λ t. steady (Go (at c Release (c .level) (c .pred))) (addLink c m)
       (λ l x h6 hx j e. (
         hx,
-        sym (word-field (m .nodes) (c .made) x (4 + c .level) (10 + l) (next (m .nodes) (c .level) (c .pred)) (omega arith) (omega arith) (omega arith))
-            ∙ sym (word-field (withWord (m .nodes) (c .made) (4 + c .level) (next (m .nodes) (c .level) (c .pred))) (c .pred) x (4 + c .level) (10 + l) (c .made)
+        sym (word-field (m .nodes) (c .made) x (linkAt (c .level)) (lockAt l) (next (m .nodes) (c .level) (c .pred)) (omega arith) (omega arith) (omega arith))
+            ∙ sym (word-field (withWord (m .nodes) (c .made) (linkAt (c .level)) (next (m .nodes) (c .level) (c .pred))) (c .pred) x (linkAt (c .level)) (lockAt l) (c .made)
             (omega arith) (omega arith) (omega arith)) ∙ e,
       ))
       (λ l x k. record { kind = k .kind; phase = tt; level = k .level; node = k .node }))

@@ -10,7 +10,7 @@ use lib.ListN.{length, getD, length-append, List·getD-append}
 use lib.Seq.{getD-at}
 use Rattle.linearizability.specs.Types.{Release, VersionsFull, KeysFull, New, None, Call, Cursor, Process}
 use Rattle.model.specs.Choice.{if_then_else_}
-use Rattle.model.specs.Layout.{Memory, nodeWords, versionWords, topLevel, capacity, word, field, key, newest, top, next, lock, nodeRecord, withNode, withNext, withVersion}
+use Rattle.model.specs.Layout.{Memory, nodeWords, versionWords, topLevel, capacity, word, field, key, newest, top, next, lock, nodeRecord, withNode, withNext, withVersion, linkAt, lockAt, levels}
 use Rattle.model.specs.Map.{Entry, Map, answered, putBy, putIn}
 use Rattle.model.specs.Phases.{ownVersion, maxNodes, maxVersions, committed, addNode, makeOf}
 use Rattle.model.specs.Calls.{processAfter}
@@ -73,15 +73,15 @@ module _ (m : Memory) (g : Ghost) (s : ℕ) (call : Call) (p : ℕ) (b : Map) (N
     pub versions-length : length (m′ .versions) ≡ length (m .versions)
     versions-length = length-version (m .versions) i (ownVersion call) 0
 
-    inside : (z : ℕ) → z ≤ x → 16 * z + 16 ≤ length (m .nodes)
+    inside : (z : ℕ) → z ≤ x → nodeWords * z + nodeWords ≤ length (m .nodes)
     inside z h = omega (arith, N .size)
 
-    old-word : (z f : ℕ) → z ≤ m .counts .nodes → f < 16 → (z ≡ p → f ≢ 4) → word (m′ .nodes) z f ≡ word (m .nodes) z f
+    old-word : (z f : ℕ) → z ≤ m .counts .nodes → f < nodeWords → (z ≡ p → f ≢ linkAt 0) → word (m′ .nodes) z f ≡ word (m .nodes) z f
     old-word z f h f16 ne =
         word-other t₁ p z 4 f x (omega arith) f16 ne
         ∙ node-out (m .nodes) x (call .key) i (call .top) (next (m .nodes) 0 p) z f f16 (omega arith)
 
-    new-word : (f : ℕ) → f < 16 → word (m′ .nodes) x f ≡ getD (nodeRecord (call .key) i (call .top) (next (m .nodes) 0 p)) f 0
+    new-word : (f : ℕ) → f < nodeWords → word (m′ .nodes) x f ≡ getD (nodeRecord (call .key) i (call .top) (next (m .nodes) 0 p)) f 0
     new-word f f16 =
         word-node t₁ p x 4 f x (omega arith) f16 (omega (arith, a .used))
         ∙ node-in (m .nodes) x (call .key) i (call .top) (next (m .nodes) 0 p) f f16 (inside x (omega arith))
@@ -135,15 +135,15 @@ module _ (m : Memory) (g : Ghost) (s : ℕ) (call : Call) (p : ℕ) (b : Map) (N
     level-up : (l : ℕ) → Level (In m′ g′ (suc l)) (key (m′ .nodes)) (next (m′ .nodes) (suc l))
     level-up l =
         kept (N .levels (suc l)) down (λ z h. (omega (arith, h .0), rw (high-old z (h .0)) (h .1))) (λ z h. keys z (h .0))
-        (λ z h. let l6 : suc l < 6 = omega (arith, h .1, N .high z (h .0)) in old-word z (4 + suc l) (h .0) (omega arith) (λ q. omega arith))
+        (λ z h. let l6 : suc l < levels = omega (arith, h .1, N .high z (h .0)) in old-word z (linkAt (suc l)) (h .0) (omega arith) (λ q. omega arith))
       where
         down : (z : ℕ) → In m′ g′ (suc l) z → In m g (suc l) z
         down z h =
             old-or-new z (h .0) (λ u. (u, rw (high-old z u) at (h .1))) (λ q. absurd (omega (arith, h .1, ap (g′ .high) q, high-x)))
 
-    levels : (l : ℕ) → Level (In m′ g′ l) (key (m′ .nodes)) (next (m′ .nodes) l)
-    levels zero = level-0
-    levels (suc l) = level-up l
+    each-level : (l : ℕ) → Level (In m′ g′ l) (key (m′ .nodes)) (next (m′ .nodes) l)
+    each-level zero = level-0
+    each-level (suc l) = level-up l
 
     pub make-nodes : Nodes m′ g′
     make-nodes = record {
@@ -159,7 +159,7 @@ module _ (m : Memory) (g : Ghost) (s : ℕ) (call : Call) (p : ℕ) (b : Map) (N
           (λ ez. old-or-new y hy
           (λ oy. absurd (unheld y oy (sym (keys y oy) ∙ sym q ∙ ap (key (m′ .nodes)) ez ∙ key-x)))
           (λ ey. ez ∙ sym ey));
-      levels = levels;
+      levels = each-level;
     }
 
     pub make-grown : (j : ℕ) → Grown m m′ g g′ j
@@ -174,17 +174,17 @@ module _ (m : Memory) (g : Ghost) (s : ℕ) (call : Call) (p : ℕ) (b : Map) (N
 
     pub locks-old : (l z : ℕ) → In m g l z → lock (m′ .nodes) l z ≡ lock (m .nodes) l z
     locks-old l z h =
-        let l6 : l < 6 = omega (arith, h .1, N .high z (h .0)) in old-word z (10 + l) (h .0) (omega arith) (λ q. omega arith)
+        let l6 : l < levels = omega (arith, h .1, N .high z (h .0)) in old-word z (lockAt l) (h .0) (omega arith) (λ q. omega arith)
 
     pub make-frame : (j : ℕ) → j ≢ s → Frame m m′ g g′ j
     make-frame j ne = record {
       grown = make-grown j;
       locks = λ l z h q. locks-old l z h ∙ q;
-      links = λ l z h q. let l6 : l < 6 = omega (arith, h .1, N .high z (h .0)) in
-          old-word z (4 + l) (h .0) (omega arith) (λ ez el. clash l z ez (cut el) q);
+      links = λ l z h q. let l6 : l < levels = omega (arith, h .1, N .high z (h .0)) in
+          old-word z (linkAt l) (h .0) (omega arith) (λ ez el. clash l z ez (cut el) q);
     }
       where
-        cut : {l : ℕ} → 4 + l ≡ 4 → l ≡ 0
+        cut : {l : ℕ} → linkAt l ≡ linkAt 0 → l ≡ 0
         cut q = omega arith
 
         clash : (l z : ℕ) → z ≡ p → l ≡ 0 → lock (m .nodes) l z ≡ suc j → ⊥

@@ -8,7 +8,7 @@ use native.Mathlib.Omega.{arith}
 use lib.Dec.{T, eqb, leb, leb→le, eqb→eq}
 use lib.ListN.{length, getD, replicate, length-replicate}
 use Rattle.linearizability.specs.Types.{Idle, Walk, Refusal, Permit, Granted, Denied, Process, Opening}
-use Rattle.model.specs.Layout.{Memory, nodeWords, versionWords, limits, capacity, word, key, top, next, freshNodes}
+use Rattle.model.specs.Layout.{Memory, nodeWords, versionWords, limits, capacity, word, key, top, next, freshNodes, linkAt, lockAt, nodeOffsets, topLevel, levels}
 use Rattle.model.specs.Map.{held}
 use Rattle.model.specs.Numbers.{placeOf}
 use Rattle.model.specs.State.{idleProcess, noProcess, freshState, within, lawfulLength, lawfulNodes, lawfulVersions}
@@ -92,12 +92,12 @@ module _ (nodes versions : List ℕ) (processes limit : ℕ) (law : Lawful nodes
   unfolding freshNodes
   fresh-length = length-word (replicate n 0) 0 2 5 ∙ length-replicate n 0
 
-  fresh-word : (x f : ℕ) → f < 16 → (x ≡ 0 → f ≢ 2) → word (freshNodes n) x f ≡ 0
+  fresh-word : (x f : ℕ) → f < nodeWords → (x ≡ 0 → f ≢ nodeOffsets .top) → word (freshNodes n) x f ≡ 0
   unfolding freshNodes
   fresh-word x f f16 ne =
-      word-other (replicate n 0) 0 x 2 f 5 (omega arith) f16 ne ∙ (unfold word in (filled {A = ℕ} n (nodeWords * x + f) 0))
+      word-other (replicate n 0) 0 x (nodeOffsets .top) f topLevel (omega arith) f16 ne ∙ (unfold word in (filled {A = ℕ} n (nodeWords * x + f) 0))
 
-  fresh-top : top (freshNodes n) 0 ≡ 5
+  fresh-top : top (freshNodes n) 0 ≡ topLevel
   unfolding freshNodes
   fresh-top =
       word-same (replicate n 0) 0 2 5 (omega arith) (omega (arith, length-replicate {A = ℕ} n 0, node-size n (law .node-length)))
@@ -107,7 +107,7 @@ module _ (nodes versions : List ℕ) (processes limit : ℕ) (law : Lawful nodes
 
   fresh-level : (l : ℕ) → Level (In m₀ g₀ l) (key (m₀ .nodes)) (next (m₀ .nodes) l)
   fresh-level l = record {
-    step = λ x i ne. absurd (ne (fresh-word x (4 + l) (omega (arith, i .1)) (λ e. omega arith)));
+    step = λ x i ne. absurd (ne (fresh-word x (linkAt l) (omega (arith, i .1)) (λ e. omega arith)));
     gap =
         λ x z i j lt. absurd (omega (arith, fresh-key x, fresh-key z));
   }
@@ -173,7 +173,7 @@ module _ (nodes versions : List ℕ) (processes limit : ℕ) (law : Lawful nodes
         (record { phase = Walk; phase-is = refl; role = λ n. absurd (n refl); ok = λ n. absurd (n refl) })
         (record { phase = Walk; phase-is = refl; role = λ n. absurd (n refl); ok = λ n. absurd (n refl) }) i;
     tops = λ x h f. omega (arith, fresh-top, ap (top (freshNodes n)) (zero-is x h));
-    locks = λ i l x h6 hx e. absurd (omega (arith, fresh-word x (10 + l) (omega arith) (λ q. omega arith)));
+    locks = λ i l x h6 hx e. absurd (omega (arith, fresh-word x (lockAt l) (omega arith) (λ q. omega arith)));
     beyond = λ i h. fresh-slot (λ q. q .call .kind ≡ Idle) refl refl i;
   }
     where

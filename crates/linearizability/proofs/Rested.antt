@@ -9,7 +9,7 @@ use native.Mathlib.Omega.{arith}
 use lib.Dec.{T}
 use lib.ListN.{getD}
 use Rattle.linearizability.specs.Types.{Kind, Idle, Put, Get, Busy, Process, Version, Inspecting, Status}
-use Rattle.model.specs.Layout.{Memory, key, newest, top, next, lock, prev}
+use Rattle.model.specs.Layout.{Memory, key, newest, top, next, lock, prev, levels}
 use Rattle.model.specs.Map.{Map}
 use Rattle.model.specs.Calls.{Store, standing, statusOf}
 use Rattle.model.specs.Inspection.{idleBelow, inspectPermit, inspectBy, inspectOf}
@@ -33,7 +33,7 @@ module _ {w : Store} {g : Ghost} {b : Map} (k : Core w g b) (idle : (i : ℕ) �
   abbrev m : Memory
   m = memory w
 
-  free : (l x : ℕ) → l < 6 → x ≤ m .counts .nodes → lock (m .nodes) l x ≡ 0
+  free : (l x : ℕ) → l < levels → x ≤ m .counts .nodes → lock (m .nodes) l x ≡ 0
   free l x h6 hx = go (lock (m .nodes) l x) refl
     where
       go : (n : ℕ) → lock (m .nodes) l x ≡ n → lock (m .nodes) l x ≡ 0
@@ -43,7 +43,7 @@ module _ {w : Store} {g : Ghost} {b : Map} (k : Core w g b) (idle : (i : ℕ) �
   linked-up : (x : ℕ) → x ≤ m .counts .nodes → g .high x ≡ suc (top (m .nodes) x)
   linked-up x h = k .tops x h (λ i c. subst (λ k. T (isPut k)) (idle i) (c .kind))
 
-  on-in : (l x : ℕ) → l < 6 → On m l x → In m g l x
+  on-in : (l x : ℕ) → l < levels → On m l x → In m g l x
   on-in l x h6 o = (
     o .0,
     by-eq x 0
@@ -54,7 +54,7 @@ module _ {w : Store} {g : Ghost} {b : Map} (k : Core w g b) (idle : (i : ℕ) �
   in-on : (l x : ℕ) → In m g l x → On m l x
   in-on l x i = (i .0, λ ne. omega (arith, i .1, linked-up x (i .0)))
 
-  level-sound : (l : ℕ) → l < 6 → LevelSound m l
+  level-sound : (l : ℕ) → l < levels → LevelSound m l
   level-sound l h6 = record {
     free = λ x o. free l x h6 (o .0);
     rises = λ x o ne. let s = k .nodes .levels l .step x (on-in l x h6 o) ne in (in-on l (next (m .nodes) l x) (s .0), s .1);

@@ -9,7 +9,7 @@ use lib.Dec.{T, eqb, leb, leb→le, nleb→lt}
 use lib.ListN.{length, getD, set, length-set, length-append}
 use lib.Seq.{getD-set-same, getD-set-other}
 use Rattle.linearizability.specs.Types.{Idle, Walk, Refusal, Call, Process, Permit, Granted, Denied, Starting}
-use Rattle.model.specs.Layout.{limits}
+use Rattle.model.specs.Layout.{limits, levels, topLevel}
 use Rattle.model.specs.Numbers.{numberOf}
 use Rattle.model.specs.Roles.{isPut}
 use Rattle.model.specs.State.{noProcess, lawfulKey, withEvent}
@@ -78,7 +78,7 @@ unfolding callFor
 kept-start (put k v t draw) n = refl
 kept-start (get k) n = refl
 
-kept-top : (op : Operation) (n : ℕ) → callFor op n .top ≤ 5
+kept-top : (op : Operation) (n : ℕ) → callFor op n .top ≤ topLevel
 unfolding callFor
 kept-top (put k v t draw) n = top-at-most draw
 kept-top (get k) n = omega arith
@@ -112,7 +112,7 @@ module _ {from : List Took} {K W : ℕ} {w : Store} {h : Seen} (l : LiveFrom fro
   begun-placed low =
       record { top5 = kept-top op (w .state .events + 1); six = refl; spot = head 5 (omega arith); memo = λ j h6. rw (filled {A = ℕ} 6 j 0) (head j h6) }
     where
-      head : (j : ℕ) → j < 6 → At (memory w) (l .g) j 0 (call .key)
+      head : (j : ℕ) → j < levels → At (memory w) (l .g) j 0 (call .key)
       head j h6 =
           record { used = omega arith; up = omega (arith, l .core .nodes .head-high); low = omega (arith, l .core .nodes .head-key, kept-key op (w .state .events + 1)) }
 

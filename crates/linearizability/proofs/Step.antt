@@ -9,7 +9,7 @@ use lib.Dec.{T, leb, le→leb}
 use lib.ListN.{length, getD, set, length-set}
 use lib.Seq.{getD-set-same, getD-set-other}
 use Rattle.linearizability.specs.Types.{Kind, Idle, Put, Get, Walk, Read, Seek, Lock, Searching, Answer, Found, None, Inserted, Miss, Call, Cursor, Process, Version, Ahead, Unused, Less, Equal, Past, Move, Refuse, Wait, Go, Note, Commit, End}
-use Rattle.model.specs.Layout.{Memory, key, newest, next, versionAt}
+use Rattle.model.specs.Layout.{Memory, key, newest, next, versionAt, levels}
 use Rattle.model.specs.Map.{Map, versionsOf, putIn, answered, getBy, getFrom}
 use Rattle.model.specs.Numbers.{noVersion}
 use Rattle.model.specs.State.{idleProcess}
@@ -115,7 +115,7 @@ module _ (m : Memory) (g : Ghost) (b : Map) (N : Nodes m g) (B : Book m b) where
   pub along : {l p k y : ℕ} → At m g l p k → Related m l p k (Less y) → At m g l y k
   along {l} {p} {k} {y} a r = rw (r .0) (let i = link-in a (r .1) .0 in record { used = i .0; up = i .1; low = r .3 })
 
-  pub level6 : {l p k : ℕ} → At m g l p k → l < 6
+  pub level6 : {l p k : ℕ} → At m g l p k → l < levels
   level6 {l} {p} a = omega (arith, a .up, N .high p (a .used))
 
   -- no node has the key, so the map has no list for it

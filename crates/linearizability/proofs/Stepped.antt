@@ -11,7 +11,7 @@ use lib.ListN.{length, getD, set, length-set, length-append}
 use lib.Seq.{getD-set-same, getD-set-other}
 use Rattle.linearizability.specs.Types.{Idle, Answer, Call, Cursor, Process, Version, Permit, Granted, Denied, Move, Refuse, Wait, Go, Note, Commit, End}
 use Rattle.model.specs.Choice.{if_then_else_}
-use Rattle.model.specs.Layout.{Memory, limits}
+use Rattle.model.specs.Layout.{Memory, limits, levels}
 use Rattle.model.specs.Map.{Map, putIn, PutResult, Reply, getFrom, applied, Applied}
 use Rattle.model.specs.Map as Seq
 use Rattle.model.specs.Numbers.{placeOf}
@@ -482,7 +482,7 @@ module _ {from : List Took} {K W : ℕ} {w : Store} {h : Seen} (l : LiveFrom fro
       move-live (r .move) (r .memory) (transition-good (memory w) (l .g) i pr tick (l .b) (k .nodes) (k .book) (omega arith) (k .fits i) busy)
       (step-locked (memory w) i tick pr (k .nodes .size) (k .nodes .room) (k .locks i) (basic .0) (basic .1) busy)
     where
-      basic : (pr .cursor .level < 6) × (pr .cursor .pred ≤ w .state .counts .nodes)
+      basic : (pr .cursor .level < levels) × (pr .cursor .pred ≤ w .state .counts .nodes)
       basic =
           Rattle.linearizability.proofs.Transition.basic (memory w) (l .g) i pr tick (l .b) (l .core .nodes) (l .core .book) (l .core .fits i) busy
 

@@ -6,7 +6,7 @@ use mathlib.Core.Path.{_≡_, refl, _∙_}
 use native.Mathlib.Omega.{arith}
 use lib.Dec.{T, eqb, ltb, leb, leb→le}
 use Rattle.linearizability.specs.Types.{Phase, Walk, Read, Seek, Lock, Check, Update, Make, Link, Release, Call, Cursor, Process, Ahead, Unused, Less, Equal, Past, Move, Refuse, Wait, Go, Note, Commit, End, Permit, Granted, Denied}
-use Rattle.model.specs.Layout.{Memory, topLevel, word, field, newest, next, lock, timestamp, withNext, withNode}
+use Rattle.model.specs.Layout.{Memory, topLevel, word, field, newest, next, lock, timestamp, withNext, withNode, nodeWords, linkAt, lockAt}
 use Rattle.model.specs.State.{processAt, memoryOf}
 use Rattle.model.specs.Phases.{Moved, moved, refuses, ownVersion, usedNode, usedVersion, maxNodes, maxVersions, withHolder, lockOf, checkBy, checkOf, addVersion, updateNode, updateAt, updateOf, addNode, makeOf, addLink, linkOf, freed, releaseOf, lawfulProcess, phaseOf, transitionOf, released, aheadOf}
 use Rattle.model.specs.Calls.{Store, stepPermit, stepBy, stepOf}
@@ -16,20 +16,20 @@ use Rattle.model.proofs.Words.{word-other, node-out, version-out}
 
 -- both tables keep a word that the phase does not name
 pub record Spares (ph : Phase) (c : Cursor) (m m′ : Memory) : Type 0 where
-  pub nodes : (x f : ℕ) → f < 16 → ¬ (MayWriteNode ph c m x f) → word (m′ .nodes) x f ≡ word (m .nodes) x f
+  pub nodes : (x f : ℕ) → f < nodeWords → ¬ (MayWriteNode ph c m x f) → word (m′ .nodes) x f ≡ word (m .nodes) x f
   pub versions : (i f : ℕ) → f < 3 → ¬ (MayWriteVersion ph m i) → field (m′ .versions) i f ≡ field (m .versions) i f
 
 untouched : (ph : Phase) (c : Cursor) (m : Memory) → Spares ph c m m
 untouched ph c m = record { nodes = λ x f h n. refl; versions = λ i f h n. refl }
 
-module _ (c : Cursor) (m : Memory) (low : c .level ≤ 5) where
+module _ (c : Cursor) (m : Memory) (low : c .level ≤ topLevel) where
   abbrev Of : Phase → Moved → Type 0
   Of ph r = Spares ph c m (r .memory)
 
   -- only the lock of p at L is written
-  one-lock : (holder x f : ℕ) → f < 16 → ¬ ((x ≡ c .pred) × (f ≡ 10 + c .level))
+  one-lock : (holder x f : ℕ) → f < nodeWords → ¬ ((x ≡ c .pred) × (f ≡ lockAt (c .level)))
       → word (withHolder m c holder .nodes) x f ≡ word (m .nodes) x f
-  one-lock holder x f h n = word-other (m .nodes) (c .pred) x (10 + c .level) f holder (omega arith) h (λ ex ef. n (ex, ef))
+  one-lock holder x f h n = word-other (m .nodes) (c .pred) x (lockAt (c .level)) f holder (omega arith) h (λ ex ef. n (ex, ef))
 
   lock-spares : (holder : ℕ) → Of Lock (lockOf c holder m)
   unfolding lockOf
@@ -88,13 +88,13 @@ module _ (c : Cursor) (m : Memory) (low : c .level ≤ 5) where
       if-by (Of Link) (usedNode m (c .made))
       (λ t. record {
         nodes = λ x f h n.
-            word-other (withNext (m .nodes) (c .level) (c .made) y) (c .pred) x (4 + c .level) f (c .made) (omega arith) h (λ ex ef. n (inr ex, ef))
-            ∙ word-other (m .nodes) (c .made) x (4 + c .level) f y (omega arith) h (λ ex ef. n (inl ex, ef));
+            word-other (withNext (m .nodes) (c .level) (c .made) y) (c .pred) x (linkAt (c .level)) f (c .made) (omega arith) h (λ ex ef. n (inr ex, ef))
+            ∙ word-other (m .nodes) (c .made) x (linkAt (c .level)) f y (omega arith) h (λ ex ef. n (inl ex, ef));
         versions = λ i f h n. refl;
       })
       (λ t. untouched Link c m)
 
-phase-spares : (ph : Phase) (holder tick : ℕ) (p : Process) (m : Memory) → p .cursor .level ≤ 5
+phase-spares : (ph : Phase) (holder tick : ℕ) (p : Process) (m : Memory) → p .cursor .level ≤ topLevel
     → Spares ph (p .cursor) m (phaseOf ph holder tick p m .memory)
 unfolding phaseOf checkOf releaseOf
 phase-spares Walk holder tick p m low = untouched Walk (p .cursor) m

@@ -6,7 +6,7 @@ use mathlib.Core.Path.{_≡_, sym, subst}
 use native.Mathlib.Omega.{arith}
 use lib.Dec.{T, eqb, leb, le→leb}
 use Rattle.linearizability.specs.Types.{Idle, Phase, Walk, Read, Seek, Lock, Check, Update, Make, Link, Release, Class, Inserted, OtherPut, Hit, Miss, None, Process}
-use Rattle.model.specs.Layout.{Memory, topLevel}
+use Rattle.model.specs.Layout.{Memory, topLevel, levels}
 use Rattle.model.specs.Map.{Map}
 use Rattle.model.specs.Phases.{noEffect, lawfulEffect, lawfulAt, lawfulProcess, phaseOf, transitionOf}
 use Rattle.model.specs.Roles.{isPut, roleOf, plays, putClass, classOf, fromPut}
@@ -22,7 +22,7 @@ module _ (m : Memory) (g : Ghost) (i : ℕ) (pr : Process) (tick : ℕ) (b : Map
   -- ---- the tests of every step
 
   abbrev pub Basic : Type 0
-  Basic = (pr .cursor .level < 6) × (pr .cursor .pred ≤ m .counts .nodes)
+  Basic = (pr .cursor .level < levels) × (pr .cursor .pred ≤ m .counts .nodes)
 
   at-basic : At m g (pr .cursor .level) (pr .cursor .pred) (pr .call .key) → Basic
   at-basic a = (omega (arith, a .up, N .high (pr .cursor .pred) (a .used)), a .used)

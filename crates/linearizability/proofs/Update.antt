@@ -10,7 +10,7 @@ use lib.ListN.{length, getD, set, length-set}
 use lib.Seq.{getD-set-same, getD-set-other}
 use Rattle.linearizability.specs.Types.{Release, Answer, TooOld, VersionsFull, Added, None, Call, Cursor, Process, Version}
 use Rattle.model.specs.Choice.{if_then_else_}
-use Rattle.model.specs.Layout.{Memory, versionWords, capacity, word, field, key, newest, next, timestamp, withNewest, withVersion}
+use Rattle.model.specs.Layout.{Memory, versionWords, capacity, word, field, key, newest, next, timestamp, withNewest, withVersion, nodeWords, linkAt, lockAt, nodeOffsets, levels}
 use Rattle.model.specs.Map.{Map, held, pushed, answered, putBy, putIn}
 use Rattle.model.specs.Phases.{ownVersion, usedNode, usedVersion, maxNodes, maxVersions, committed, addVersion, updateNode, updateAt, updateOf}
 use Rattle.model.specs.Calls.{processAfter}
@@ -63,10 +63,10 @@ module _ (m : Memory) (g : Ghost) (call : Call) (b : Map) (N : Nodes m g) (B : B
     abbrev b₁ : Map
     b₁ = set b j (with-front (getD b j no-entry) (ownVersion call))
 
-    six : (l y : ℕ) → In m g l y → l < 6
+    six : (l y : ℕ) → In m g l y → l < levels
     six l y h = omega (arith, h .1, N .high y (h .0))
 
-    other-word : (y f : ℕ) → f < 16 → f ≢ 1 → word (m′ .nodes) y f ≡ word (m .nodes) y f
+    other-word : (y f : ℕ) → f < nodeWords → f ≢ nodeOffsets .newest → word (m′ .nodes) y f ≡ word (m .nodes) y f
     other-word y f f16 ne = word-field (m .nodes) x y 1 f i (omega arith) f16 ne
 
     keys : (y : ℕ) → key (m′ .nodes) y ≡ key (m .nodes) y
@@ -78,11 +78,11 @@ module _ (m : Memory) (g : Ghost) (call : Call) (b : Map) (N : Nodes m g) (B : B
       count-is = refl;
       keys = λ y h. keys y;
       tops = λ y h. other-word y 2 (omega arith) (omega arith);
-      links = λ l y h. let l6 = six l y h in other-word y (4 + l) (omega arith) (omega arith);
+      links = λ l y h. let l6 = six l y h in other-word y (linkAt l) (omega arith) (omega arith);
     }
 
     pub add-frame : (s : ℕ) → Frame m m′ g g s
-    add-frame s = frame-alike add-alike (λ l y h e. let l6 = six l y h in other-word y (10 + l) (omega arith) (omega arith) ∙ e)
+    add-frame s = frame-alike add-alike (λ l y h e. let l6 = six l y h in other-word y (lockAt l) (omega arith) (omega arith) ∙ e)
 
     pub versions-length : length (m′ .versions) ≡ length (m .versions)
     versions-length = length-version (m .versions) i (ownVersion call) (newest (m .nodes) x)
