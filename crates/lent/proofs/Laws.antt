@@ -24,7 +24,7 @@ use Rattle.layout.specs.Head.{headerWords, headerOf}
 use Rattle.calls.specs.Advance.{Advance, advanceBy, advanceOf}
 use Rattle.calls.proofs.Laws.{stays, moves, step-stays, step-moves}
 use Rattle.process.specs.Numbers.{kindOf}
-use Rattle.process.specs.ProcessWords.{sizes, processWords}
+use Rattle.process.specs.ProcessWords.{sizes, processWords, processOffsets}
 use Rattle.layout.specs.StateWords.{stateWords, stateFrom, knownHead, isState, isStateAt, startOf, putEvent}
 use Rattle.layout.proofs.Laws.{process-at, state-facts, state-back, event-words}
 use Rattle.layout.proofs.Known.{by-none}
@@ -38,11 +38,11 @@ use Rattle.lent.specs.Calls.{StartIn, startedIn, startUnless, begunIn, S
 
 -- the kind that the words of a process begin with
 pub kind-at : (w : List ℕ) (i j : ℕ) → j ≡ i → i < limits .processes
-    → processAt (stateFrom w) i .call .kind ≡ kindOf (getD w (startOf j) 0)
+    → processAt (stateFrom w) i .call .kind ≡ kindOf (getD w (startOf j + processOffsets .kind) 0)
 kind-at w i j e h =
-    let zero : startOf i + 0 ≡ startOf j = omega (arith, e) in
+    let k = processOffsets .kind in
     ap (λ p. p .call .kind) (process-at w i h)
-    ∙ ap kindOf (getD-take (sizes .process) (drop (startOf i) w) 0 0 (omega arith) ∙ getD-drop (startOf i) w 0 0 ∙ ap (λ k. getD w k 0) zero)
+    ∙ ap kindOf (getD-take (sizes .process) (drop (startOf i) w) k 0 (omega arith) ∙ getD-drop (startOf i) w k 0 ∙ ap (λ q. getD w (startOf q + k) 0) (sym e))
 
 abbrev unchanged : Refusal → (words nodes versions tally : List ℕ) → StepIn
 unchanged r w nodes versions tally = steppedIn (Stepping.Refused r) w nodes versions tally

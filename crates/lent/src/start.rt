@@ -19,6 +19,7 @@ use model::types::Permit;
 use model::types::Refusal;
 use model::types::Starting;
 use process::numbers::kind_of;
+use process::types::ProcessOffsets;
 use process::types::Sizes;
 use process::words::put_process;
 use refusals::permit::start_permit;
@@ -58,7 +59,7 @@ fn start_in(
         return Starting::Refused(Refusal::Corrupt);
     }
     let at = Sizes::HEAD + Sizes::PROCESS * slot(process);
-    let running = kind_of(words[at]);
+    let running = kind_of(words[at + ProcessOffsets::KIND]);
     let permit = start_permit(
         &words[HeadOffsets::HEADER..Sizes::HEAD],
         running,

@@ -17,6 +17,7 @@ use model::types::Refusal;
 use model::types::State;
 use model::types::Stepping;
 use process::numbers::kind_of;
+use process::types::ProcessOffsets;
 use process::types::Sizes;
 use refusals::permit::step_permit;
 use transition::step::transition;
@@ -100,7 +101,7 @@ fn step_known(
         ≡ stepIn (now (words .entry)) (now (nodes .entry)) (now (versions .entry)) (now (tally .entry)) process ⌝ }
 {
     let at = Sizes::HEAD + Sizes::PROCESS * process as usize;
-    let kind = kind_of(words[at]);
+    let kind = kind_of(words[at + ProcessOffsets::KIND]);
     let permit = step_permit(
         &words[HeadOffsets::HEADER..Sizes::HEAD],
         kind,

@@ -8,6 +8,7 @@ use borrow.Author.Needs.{needs}
 use Rattle.calls.proofs.Places.{slot-below, slot-own}
 use borrow.Author.Tests.{not-true, not-false}
 use Rattle.model.specs.declared.types.Call.{Call}
+use Rattle.model.specs.Layout.{limits}
 use Rattle.model.specs.Calls.{startPermit}
 use Rattle.refusals.proofs.Laws.{MayStart, may-start}
 use Rattle.process.specs.ProcessWords.{sizes}
@@ -46,7 +47,7 @@ may : (c : tie.After-enum-told) → let a = start (c .before .before) .args in
     MayStart (stateFrom (a .words .now)) (a .nodes .now) (a .versions .now) (a .process)
 may c = may-start _ _ _ _ _ (permit-is (c .before .before)) (c .enum-told .given .1)
 
-few : (c : tie.After-enum-told) → start (c .before .before) .args .process < 8
+few : (c : tie.After-enum-told) → start (c .before .before) .args .process < limits .processes
 few c = let f = may c in let l = f .lawful .processes in omega (arith, f .process)
 
 is-state-requires : tie.Need-is-state-requires
@@ -67,6 +68,9 @@ mul-at c = search needs
 
 add-at : tie.Need-add-at
 add-at c = search needs
+
+add-kind-of : tie.Need-add-kind-of
+add-kind-of c = search needs
 
 mul-kind-of : tie.Need-mul-kind-of
 mul-kind-of c = search needs
@@ -137,6 +141,7 @@ start-in-spec =
     slot-requires
     mul-at
     add-at
+    add-kind-of
     mul-kind-of
     slice-read-kind-of
     kind-of-requires

@@ -4,7 +4,7 @@ use mathlib.Core.Bool.{true}
 use mathlib.Core.Path.{_≡_, refl, sym, ap, subst, _∙_}
 use native.Mathlib.Omega.{arith}
 use lib.ListN.{length, getD}
-use Rattle.model.specs.Layout.{topLevel}
+use Rattle.model.specs.Layout.{limits, topLevel}
 use Rattle.model.specs.Phases.{transitionOf, refuses}
 use Rattle.model.specs.Calls.{storeOf}
 use Rattle.tables.specs.Room.{memory}
@@ -30,7 +30,7 @@ may : (s : tie.Start) → let a = s .args in
     MayStep (storeOf (stateFrom (a .words .now)) (a .nodes .now) (a .versions .now) (a .tally .now)) (a .process)
 may s = may-step _ _ refl (passed _ _ _ _ _ (s .pre) .1)
 
-few : (s : tie.Start) → s .args .process < 8
+few : (s : tie.Start) → s .args .process < limits .processes
 few s = let f = may s .start in let l = f .lawful .processes in omega (arith, f .process)
 
 mul-at : tie.Need-mul-at

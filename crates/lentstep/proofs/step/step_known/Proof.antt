@@ -37,6 +37,9 @@ mul-at c = search needs
 add-at : tie.Need-add-at
 add-at c = search needs
 
+add-kind-of : tie.Need-add-kind-of
+add-kind-of c = search needs
+
 mul-kind-of : tie.Need-mul-kind-of
 mul-kind-of c = search needs
 
@@ -103,6 +106,7 @@ step-known-spec =
     (tie.spec
     mul-at
     add-at
+    add-kind-of
     mul-kind-of
     slice-read-kind-of
     kind-of-requires
