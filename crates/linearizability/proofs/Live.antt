@@ -10,7 +10,7 @@ use lib.ListN.{length, getD, set, length-append}
 use lib.Seq.{getD-set-same, getD-set-other}
 use Rattle.linearizability.specs.Types.{Kind, Idle, Put, Get, Answer, NoProcess, Call, Process, Status}
 use Rattle.model.specs.Choice.{if_then_else_}
-use Rattle.model.specs.Layout.{Memory, nodeWords, versionWords, capacity, top}
+use Rattle.model.specs.Layout.{Memory, nodeWords, versionWords, capacity, top, limits}
 use Rattle.model.specs.Map.{Map}
 use Rattle.model.specs.Numbers.{placeOf}
 use Rattle.model.specs.State.{noProcess, idleProcess, processAt, memoryOf, withEvent, lawfulNodes, lawfulVersions, lawfulState, lawfulStore}
@@ -34,15 +34,15 @@ slot w i = processAt (w .state) i
 
 pub record Core (w : Store) (g : Ghost) (b : Map) : Type 0 where
   pub opened : w .state .opened ≡ true
-  pub processes : (1 ≤ w .state .processes) × (w .state .processes ≤ 8)
+  pub processes : (1 ≤ w .state .processes) × (w .state .processes ≤ limits .processes)
   pub limit : (1 ≤ w .state .limit) × (w .state .limit ≤ 1_000_000_000)
   pub events : w .state .events ≤ w .state .limit
   pub node-length : T (lawfulNodes (w .state .lengths .nodes))
   pub version-length : T (lawfulVersions (w .state .lengths .versions))
   pub nodes-lent : length (w .nodes) ≡ w .state .lengths .nodes
   pub versions-lent : length (w .versions) ≡ w .state .lengths .versions
-  pub tally : length (w .tally) ≡ 7
-  pub array : length (w .state .process) ≡ 8
+  pub tally : length (w .tally) ≡ limits .answers
+  pub array : length (w .state .process) ≡ limits .processes
   pub nodes : Nodes (memory w) g
   pub book : Book (memory w) b
   pub fits : (i : ℕ) → Fits (memory w) g i (slot w i)
@@ -124,7 +124,7 @@ core-state {w} c =
     rw (
       c .opened,
       is-true (leb 1 (s .processes)) (le→leb 1 (s .processes) (c .processes .0)),
-      is-true (leb (s .processes) 8) (le→leb (s .processes) 8 (c .processes .1)),
+      is-true (leb (s .processes) (limits .processes)) (le→leb (s .processes) (limits .processes) (c .processes .1)),
       is-true (leb 1 (s .limit)) (le→leb 1 (s .limit) (c .limit .0)),
       is-true (leb (s .limit) 1_000_000_000) (le→leb (s .limit) 1_000_000_000 (c .limit .1)),
       is-true (leb (s .events) (s .limit)) (le→leb (s .events) (s .limit) (c .events)),
@@ -246,8 +246,8 @@ refused-live {from} {K} {W} {w} {h} right t l =
 
 -- an event of process i: a call x that took effect or none, and what it leaves of store and history
 module _ (K W : ℕ) (w : Store) (h : Seen) (b : Map) (eff : List Took) (k : Hist K W w h b eff)
-    (eight : length (w .state .process) ≡ 8)
-    (i : ℕ) (i8 : i < 8) (a : Action) (x : Took) (m : Memory) (pr : Process) (tly : List ℕ)
+    (eight : length (w .state .process) ≡ limits .processes)
+    (i : ℕ) (i8 : i < limits .processes) (a : Action) (x : Took) (m : Memory) (pr : Process) (tly : List ℕ)
     (pending : ℕ → Pending) (starts : ℕ) (completed : List Completed) (faults : ℕ) (b′ : Map) where
   abbrev pub w′ : Store
   w′ = record { state = withEvent (w .state) i (m .counts) pr; nodes = m .nodes; versions = m .versions; tally = tly }

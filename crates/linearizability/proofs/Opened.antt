@@ -28,7 +28,7 @@ use Rattle.model.proofs.Seen.{emptySeen}
 pub record Lawful (nodes versions : List ℕ) (processes limit : ℕ) : Type 0 where
   pub node-length : T (lawfulNodes (length nodes))
   pub version-length : T (lawfulVersions (length versions))
-  pub processes-in : (1 ≤ processes) × (processes ≤ 8)
+  pub processes-in : (1 ≤ processes) × (processes ≤ limits .processes)
   pub limit-in : (1 ≤ limit) × (limit ≤ 1_000_000_000)
 
 plain : (x : Bool) → T (not (not x)) → T x
@@ -140,11 +140,11 @@ module _ (nodes versions : List ℕ) (processes limit : ℕ) (law : Lawful nodes
 
   -- every process is idle, and so is what is read past the array's end
   fresh-slot : (P : Process → Type 0) → P idleProcess → P noProcess → (i : ℕ) → P (slot w₀ i)
-  fresh-slot P idle none i = by-le 8 i
-      (λ h. subst P (sym (lib.ListN.List·getD-eq-default (replicate 8 idleProcess) noProcess {n = i} h)) none)
+  fresh-slot P idle none i = by-le (limits .processes) i
+      (λ h. subst P (sym (lib.ListN.List·getD-eq-default (replicate (limits .processes) idleProcess) noProcess {n = i} h)) none)
       (λ h. subst P (sym (within-array i h)) idle)
     where
-      within-array : (i : ℕ) → i < 8 → getD (replicate 8 idleProcess) i noProcess ≡ idleProcess
+      within-array : (i : ℕ) → i < limits .processes → getD (replicate (limits .processes) idleProcess) i noProcess ≡ idleProcess
       within-array zero h = refl
       within-array (suc zero) h = refl
       within-array (suc (suc zero)) h = refl
@@ -202,7 +202,7 @@ module _ (nodes versions : List ℕ) (processes limit : ℕ) (law : Lawful nodes
         (record { same = refl; resting = λ e. refl; begun = omega arith; entered = λ d e ne. absurd (ne refl) }) i;
     nothing-else = λ k i c e. absurd (nothing≢took e);
     looks = tt;
-    tally = λ a. filled {A = ℕ} 7 (placeOf a) 0;
+    tally = λ a. filled {A = ℕ} (limits .answers) (placeOf a) 0;
     counted = omega (arith, none-busy processes);
     few = omega arith;
     faults = refl;

@@ -170,7 +170,7 @@ module _ {from : List Took} {K W : ℕ} {w : Store} {h : Seen} (l : LiveFrom fro
     start-hist granted =
         let k = l .core in
         let q = l .hist in
-        let i8 : i < 8 = omega (arith, k .processes .1, below) in
+        let i8 : i < limits .processes = omega (arith, k .processes .1, below) in
         event-hist K W w h (l .b) (l .eff) q (k .array) i i8 a nothing (memory w) (begun call) (w .tally) pending′ (suc (h .starts)) (h .completed)
         (h .faults + unless (isGranted (seenDue h (start i op)) && eqb (w .state .events + 1) (tickOf h))) (l .b) (record {
           K-same = refl;

@@ -44,7 +44,7 @@ answered-few a (d ∷ l) =
     if-by (λ (k : ℕ). k + countedAt (placeOf a) l ≤ suc (length l)) (eqb (placeOf (d .told .answer)) (placeOf a)) (λ t. omega arith) (λ t. omega arith)
 
 -- the tally after a finished call: far fewer calls were finished than a count holds
-tally-counts : (t : List ℕ) (ds : List Completed) (d : Completed) (a : Answer) → length t ≡ 7 → length ds < (limits .count)
+tally-counts : (t : List ℕ) (ds : List Completed) (d : Completed) (a : Answer) → length t ≡ limits .answers → length ds < (limits .count)
     → getD t (placeOf (d .told .answer)) 0 ≡ countedAt (placeOf (d .told .answer)) ds → getD t (placeOf a) 0 ≡ countedAt (placeOf a) ds
     → getD (counted t (d .told .answer)) (placeOf a) 0 ≡ countedAt (placeOf a) (d ∷ ds)
 unfolding counted countedAt
@@ -135,7 +135,7 @@ module _ {from : List Took} {K W : ℕ} {w : Store} {h : Seen} (l : LiveFrom fro
   below : i < w .state .processes
   below = omega (arith, al .below, l .hist .processes-is)
 
-  i8 : i < 8
+  i8 : i < limits .processes
   i8 = omega (arith, l .core .processes .1, below)
 
   inside : i < length (w .state .process)
