@@ -13,11 +13,10 @@ use Rattle.model.specs.declared.types.Looking.{Looking}
 use Rattle.model.specs.declared.types.Inspecting.{Inspecting}
 use Rattle.model.specs.declared.types.Status.{Status}
 use Rattle.model.specs.Choice.{if_then_else_}
-use Rattle.model.specs.Numbers.{refusalOf, answerOf}
+use Rattle.model.specs.Numbers.{refusalOf, answerOf, kindFrom}
 use Rattle.model.specs.Requests.{Operation}
 use Rattle.model.specs.System.{System}
 use Rattle.model.specs.ByValue.{fittingOf, opensBy}
-use Rattle.process.specs.Numbers.{kindOf}
 use Rattle.layout.specs.StateWords.{stateFrom}
 use Rattle.lent.specs.Calls.{OpenIn, openedIn, StartIn, startedIn, StepIn, steppedIn}
 use Rattle.lent.specs.Lent.{Lent, Lending, freshLent, withWords, steppedLent}
@@ -46,7 +45,7 @@ steppedMeant t =
     if eqb (word t 0) 0 then Stepping.Moved (word t 1)
     else if eqb (word t 0) 1 then Stepping.Waited (word t 1)
     else Stepping.Finished (record {
-      kind = kindOf (word t 2);
+      kind = kindFrom (word t 2);
       answer = answerOf (word t 3);
       value = word t 4;
       timestamp = word t 5;
@@ -68,7 +67,7 @@ inspectMeant t =
 
 unfoldable pub statusMeant : Told → Status
 statusMeant t =
-    byNumber (t .number) (if eqb (word t 0) 0 then Status.Idle else Status.Running (kindOf (word t 0)) (word t 1) (word t 2))
+    byNumber (t .number) (if eqb (word t 0) 0 then Status.Idle else Status.Running (kindFrom (word t 0)) (word t 1) (word t 2))
     Status.Refused
 
 -- beside the words that the call leaves: the way back from `openReply` .. `stepReply`

@@ -6,6 +6,7 @@ use mathlib.Core.Path.{_≡_, refl, sym, ap, _∙_}
 use native.Mathlib.Omega.{arith}
 use lib.ListN.{length, getD, take, drop}
 use lib.Seq.{getD-take, getD-drop}
+use Rattle.model.specs.Numbers.{kindFrom}
 use Rattle.model.specs.declared.types.Call.{Call}
 use Rattle.model.specs.declared.types.Counts.{Counts}
 use Rattle.model.specs.declared.types.Move.{Move}
@@ -23,7 +24,6 @@ use Rattle.tables.specs.Room.{memory}
 use Rattle.layout.specs.Head.{headerWords, headerOf}
 use Rattle.calls.specs.Advance.{Advance, advanceBy, advanceOf}
 use Rattle.calls.proofs.Laws.{stays, moves, step-stays, step-moves}
-use Rattle.process.specs.Numbers.{kindOf}
 use Rattle.process.specs.ProcessWords.{sizes, processWords, processOffsets}
 use Rattle.layout.specs.StateWords.{stateWords, stateFrom, knownHead, isState, isStateAt, startOf, putEvent}
 use Rattle.layout.proofs.Laws.{process-at, state-facts, state-back, event-words}
@@ -38,11 +38,11 @@ use Rattle.lent.specs.Calls.{StartIn, startedIn, startUnless, begunIn, S
 
 -- the kind that the words of a process begin with
 pub kind-at : (w : List ℕ) (i j : ℕ) → j ≡ i → i < limits .processes
-    → processAt (stateFrom w) i .call .kind ≡ kindOf (getD w (startOf j + processOffsets .kind) 0)
+    → processAt (stateFrom w) i .call .kind ≡ kindFrom (getD w (startOf j + processOffsets .kind) 0)
 kind-at w i j e h =
     let k = processOffsets .kind in
     ap (λ p. p .call .kind) (process-at w i h)
-    ∙ ap kindOf (getD-take (sizes .process) (drop (startOf i) w) k 0 (omega arith) ∙ getD-drop (startOf i) w k 0 ∙ ap (λ q. getD w (startOf q + k) 0) (sym e))
+    ∙ ap kindFrom (getD-take (sizes .process) (drop (startOf i) w) k 0 (omega arith) ∙ getD-drop (startOf i) w k 0 ∙ ap (λ q. getD w (startOf q + k) 0) (sym e))
 
 abbrev unchanged : Refusal → (words nodes versions tally : List ℕ) → StepIn
 unchanged r w nodes versions tally = steppedIn (Stepping.Refused r) w nodes versions tally

@@ -18,11 +18,11 @@ use model::types::Kind;
 use model::types::Permit;
 use model::types::Refusal;
 use model::types::Starting;
-use process::numbers::kind_of;
 use process::types::ProcessOffsets;
 use process::types::Sizes;
 use process::words::put_process;
 use refusals::permit::start_permit;
+use values::numbers::kind_from;
 
 // The words of the process that stand at `at`, and the event: the counts in use are written back as they were.
 fn begin_in(words: &mut [u32], at: usize, call: Call)
@@ -59,7 +59,7 @@ fn start_in(
         return Starting::Refused(Refusal::Corrupt);
     }
     let at = Sizes::HEAD + Sizes::PROCESS * slot(process);
-    let running = kind_of(words[at + ProcessOffsets::KIND]);
+    let running = kind_from(words[at + ProcessOffsets::KIND]);
     let permit = start_permit(
         &words[HeadOffsets::HEADER..Sizes::HEAD],
         running,

@@ -16,11 +16,11 @@ use model::types::Permit;
 use model::types::Refusal;
 use model::types::State;
 use model::types::Stepping;
-use process::numbers::kind_of;
 use process::types::ProcessOffsets;
 use process::types::Sizes;
 use refusals::permit::step_permit;
 use transition::step::transition;
+use values::numbers::kind_from;
 
 // A number past the last process has no words: its step is refused.
 fn step_past(
@@ -101,7 +101,7 @@ fn step_known(
         ≡ stepIn (now (words .entry)) (now (nodes .entry)) (now (versions .entry)) (now (tally .entry)) process ⌝ }
 {
     let at = Sizes::HEAD + Sizes::PROCESS * process as usize;
-    let kind = kind_of(words[at + ProcessOffsets::KIND]);
+    let kind = kind_from(words[at + ProcessOffsets::KIND]);
     let permit = step_permit(
         &words[HeadOffsets::HEADER..Sizes::HEAD],
         kind,

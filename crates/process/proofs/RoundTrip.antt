@@ -12,13 +12,12 @@ use Rattle.model.specs.declared.types.Process.{Process}
 use Rattle.model.specs.Layout.{limits, wordSize, levels, lowHalf}
 use Rattle.model.proofs.Laws.{place-at, answer-at, place-below}
 use Rattle.model.proofs.Words.{low-joined, high-joined, joined-halves}
-use Rattle.process.specs.Numbers.{kindNumber, kinds, kindOf, phaseNumber, phases, phaseOf}
 use Rattle.process.specs.ProcessWords.{sizes, processOffsets, processWords, processFrom, knownProcess, callWords, cursorWords, effectWords}
 use Rattle.model.specs.declared.types.Kind.{Kind}
 use Rattle.model.specs.declared.types.Kind.the-variants.{Idle, Put, Get}
 use Rattle.model.specs.declared.types.Phase.{Phase}
 use Rattle.model.specs.declared.types.Phase.the-variants.{Walk, Read, Seek, Lock, Check, Update, Make, Link, Release}
-use Rattle.model.specs.Numbers.{placeOf}
+use Rattle.model.specs.Numbers.{placeOf, kindNumber, kinds, kindFrom, phaseNumber, phases, phaseFrom}
 use Rattle.process.proofs.Heads.{heads, heads-are, spelt}
 
 -- ---- numbers
@@ -36,18 +35,18 @@ below (suc k) f t n h = cases (below k f (and-eq-true-iff (f k) (allBelow k f) .
     cases smaller true e = ap f (eqb-true n k e) ∙ and-eq-true-iff (f k) (allBelow k f) .0 t .0
     cases smaller false e = smaller (omega (arith, h, eqb-false n k e))
 
-kind-back : (n : ℕ) → n < length kinds → kindNumber (kindOf n) ≡ n
-kind-back n h = eqb-true _ _ (below (length kinds) (λ n. eqb (kindNumber (kindOf n)) n) refl n h)
+kind-back : (n : ℕ) → n < length kinds → kindNumber (kindFrom n) ≡ n
+kind-back n h = eqb-true _ _ (below (length kinds) (λ n. eqb (kindNumber (kindFrom n)) n) refl n h)
 
-phase-back : (n : ℕ) → n < length phases → phaseNumber (phaseOf n) ≡ n
-phase-back n h = eqb-true _ _ (below (length phases) (λ n. eqb (phaseNumber (phaseOf n)) n) refl n h)
+phase-back : (n : ℕ) → n < length phases → phaseNumber (phaseFrom n) ≡ n
+phase-back n h = eqb-true _ _ (below (length phases) (λ n. eqb (phaseNumber (phaseFrom n)) n) refl n h)
 
-pub kind-from : (k : Kind) → (kindOf (kindNumber k) ≡ k) × (ltb (kindNumber k) (length kinds) ≡ true)
+pub kind-from : (k : Kind) → (kindFrom (kindNumber k) ≡ k) × (ltb (kindNumber k) (length kinds) ≡ true)
 kind-from Idle = (refl, refl)
 kind-from Put = (refl, refl)
 kind-from Get = (refl, refl)
 
-phase-from : (p : Phase) → (phaseOf (phaseNumber p) ≡ p) × (ltb (phaseNumber p) (length phases) ≡ true)
+phase-from : (p : Phase) → (phaseFrom (phaseNumber p) ≡ p) × (ltb (phaseNumber p) (length phases) ≡ true)
 phase-from Walk = (refl, refl)
 phase-from Read = (refl, refl)
 phase-from Seek = (refl, refl)

@@ -9,10 +9,9 @@ use Rattle.model.specs.declared.types.Cursor.{Cursor}
 use Rattle.model.specs.declared.types.Effect.{Effect}
 use Rattle.model.specs.declared.types.Process.{Process}
 use Rattle.model.specs.Layout.{levels, wordSize, lowHalf, highHalf, joined}
-use Rattle.model.specs.Numbers.{placeOf, answers, answerOf}
+use Rattle.model.specs.Numbers.{placeOf, answers, answerOf, kindNumber, kinds, kindFrom, phaseNumber, phases, phaseFrom}
 use Rattle.process.specs.declared.types.Sizes.{Sizes}
 use Rattle.process.specs.declared.types.ProcessOffsets.{ProcessOffsets}
-use Rattle.process.specs.Numbers.{kindNumber, kinds, kindOf, phaseNumber, phases, phaseOf}
 
 abbrev pub sizes : Sizes
 sizes = record { version = 2; head = 9; process = 19; state = 161 }
@@ -55,7 +54,7 @@ processWords p = callWords (p .call) ++ cursorWords (p .cursor) ++ effectWords (
 abbrev pub processFrom : List ℕ → Process
 processFrom w = record {
   call = record {
-    kind = kindOf (getD w (processOffsets .kind) 0);
+    kind = kindFrom (getD w (processOffsets .kind) 0);
     key = joined (getD w (processOffsets .keylow) 0) (getD w (processOffsets .keyhigh) 0);
     value = getD w (processOffsets .value) 0;
     timestamp = getD w (processOffsets .timestamp) 0;
@@ -63,7 +62,7 @@ processFrom w = record {
     start = getD w (processOffsets .start) 0;
   };
   cursor = record {
-    phase = phaseOf (getD w (processOffsets .phase) 0);
+    phase = phaseFrom (getD w (processOffsets .phase) 0);
     level = getD w (processOffsets .level) 0;
     pred = getD w (processOffsets .pred) 0;
     made = getD w (processOffsets .made) 0;

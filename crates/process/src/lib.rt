@@ -1,4 +1,3 @@
-// One process in nineteen words: the number of each kind and phase, and the parts of a process, read and written in place.
-pub mod numbers;
+// One process in nineteen words: its parts tested, read and written in place.
 pub mod types;
 pub mod words;

@@ -3,11 +3,6 @@ ghost use mathlib.Core.Path.{_≡_};
 ghost use lib.ListN.{length};
 ghost use Rattle.process.specs.ProcessWords.{sizes, processOffsets, callWords, cursorWords, effectWords, processWords, processFrom, knownProcess};
 ghost use lib.Seq.{sets};
-use crate::numbers::answer_of;
-use crate::numbers::kind_number;
-use crate::numbers::kind_of;
-use crate::numbers::phase_number;
-use crate::numbers::phase_of;
 use crate::types::ProcessOffsets;
 use crate::types::Sizes;
 use model::types::Call;
@@ -20,6 +15,11 @@ use model::types::State;
 use values::halves::high_half;
 use values::halves::joined;
 use values::halves::low_half;
+use values::numbers::answer_of;
+use values::numbers::kind_from;
+use values::numbers::kind_number;
+use values::numbers::phase_from;
+use values::numbers::phase_number;
 use values::numbers::place_of;
 
 pub fn call_in(w: &[u32]) -> Call
@@ -27,7 +27,7 @@ pub fn call_in(w: &[u32]) -> Call
     ensures { λ r. ⌜ r ≡ processFrom (now (w .entry)) .call ⌝ }
 {
     Call {
-        kind: kind_of(w[ProcessOffsets::KIND]),
+        kind: kind_from(w[ProcessOffsets::KIND]),
         key: joined(w[ProcessOffsets::KEY_LOW], w[ProcessOffsets::KEY_HIGH]),
         value: w[ProcessOffsets::VALUE],
         timestamp: w[ProcessOffsets::TIMESTAMP],
@@ -41,7 +41,7 @@ pub fn cursor_in(w: &[u32]) -> Cursor
     ensures { λ r. ⌜ r ≡ processFrom (now (w .entry)) .cursor ⌝ }
 {
     Cursor {
-        phase: phase_of(w[ProcessOffsets::PHASE]),
+        phase: phase_from(w[ProcessOffsets::PHASE]),
         level: w[ProcessOffsets::LEVEL],
         pred: w[ProcessOffsets::PRED],
         made: w[ProcessOffsets::MADE],

@@ -10,8 +10,7 @@ use Rattle.model.specs.declared.types.Stepping.{Stepping}
 use Rattle.model.specs.declared.types.Looking.{Looking}
 use Rattle.model.specs.declared.types.Inspecting.{Inspecting}
 use Rattle.model.specs.declared.types.Status.{Status}
-use Rattle.model.specs.Numbers.{numberOf, placeOf}
-use Rattle.process.specs.Numbers.{kindNumber}
+use Rattle.model.specs.Numbers.{numberOf, placeOf, kindNumber}
 
 pub record Told : Type 0 where
   pub number : ℕ

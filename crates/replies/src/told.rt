@@ -10,7 +10,7 @@ use model::types::Opening;
 use model::types::Starting;
 use model::types::Status;
 use model::types::Stepping;
-use process::numbers::kind_number;
+use values::numbers::kind_number;
 use values::numbers::number_of;
 use values::numbers::place_of;
 

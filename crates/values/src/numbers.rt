@@ -1,7 +1,10 @@
-// Document 01's number of each refusal, and the place of each answer in the tally.
+// Document 01's number of each refusal, the place of each answer in the tally, the number of each kind and phase; and what a number
+// in a word means.
 ghost use mathlib.Core.Path.{_≡_};
-ghost use Rattle.model.specs.Numbers.{numberOf, placeOf};
+ghost use Rattle.model.specs.Numbers.{numberOf, placeOf, answerOf, kindNumber, kindFrom, phaseNumber, phaseFrom};
 use model::types::Answer;
+use model::types::Kind;
+use model::types::Phase;
 use model::types::Refusal;
 
 pub fn number_of(refusal: Refusal) -> u32
@@ -38,5 +41,74 @@ pub fn place_of(answer: Answer) -> u32
         Answer::New => 4,
         Answer::Found => 5,
         Answer::None => 6,
+    }
+}
+
+pub fn kind_number(kind: Kind) -> u32
+    ensures { λ r. ⌜ r ≡ kindNumber kind ⌝ }
+{
+    match kind {
+        Kind::Idle => 0,
+        Kind::Put => 1,
+        Kind::Get => 2,
+    }
+}
+
+pub fn kind_from(word: u32) -> Kind
+    ensures { λ r. ⌜ r ≡ kindFrom word ⌝ }
+{
+    match word {
+        0 => Kind::Idle,
+        1 => Kind::Put,
+        2 => Kind::Get,
+        _ => Kind::Get,
+    }
+}
+
+pub fn phase_number(phase: Phase) -> u32
+    ensures { λ r. ⌜ r ≡ phaseNumber phase ⌝ }
+{
+    match phase {
+        Phase::Walk => 0,
+        Phase::Read => 1,
+        Phase::Seek => 2,
+        Phase::Lock => 3,
+        Phase::Check => 4,
+        Phase::Update => 5,
+        Phase::Make => 6,
+        Phase::Link => 7,
+        Phase::Release => 8,
+    }
+}
+
+pub fn phase_from(word: u32) -> Phase
+    ensures { λ r. ⌜ r ≡ phaseFrom word ⌝ }
+{
+    match word {
+        0 => Phase::Walk,
+        1 => Phase::Read,
+        2 => Phase::Seek,
+        3 => Phase::Lock,
+        4 => Phase::Check,
+        5 => Phase::Update,
+        6 => Phase::Make,
+        7 => Phase::Link,
+        8 => Phase::Release,
+        _ => Phase::Release,
+    }
+}
+
+pub fn answer_of(word: u32) -> Answer
+    ensures { λ r. ⌜ r ≡ answerOf word ⌝ }
+{
+    match word {
+        0 => Answer::TooOld,
+        1 => Answer::VersionsFull,
+        2 => Answer::Added,
+        3 => Answer::KeysFull,
+        4 => Answer::New,
+        5 => Answer::Found,
+        6 => Answer::None,
+        _ => Answer::None,
     }
 }

@@ -40,7 +40,7 @@ permit-is c =
     c .start-permit .ensures _
     (record {
       same = header-at (a .words .now) 0 (state-at (a .words .now) 0 (known (c .before .before .before .before .before .before)));
-      found = λ h. kind-at (a .words .now) (a .process) _ (slot-own _ _ (c .before .before .before .before .before .slot .ensures) h) h ∙ sym (c .before .before .before .kind-of .ensures);
+      found = λ h. kind-at (a .words .now) (a .process) _ (slot-own _ _ (c .before .before .before .before .before .slot .ensures) h) h ∙ sym (c .before .before .before .kind-from .ensures);
     })
 
 may : (c : tie.After-enum-told) → let a = start (c .before .before) .args in
@@ -69,17 +69,17 @@ mul-at c = search needs
 add-at : tie.Need-add-at
 add-at c = search needs
 
-add-kind-of : tie.Need-add-kind-of
-add-kind-of c = search needs
+add-kind-from : tie.Need-add-kind-from
+add-kind-from c = search needs
 
-mul-kind-of : tie.Need-mul-kind-of
-mul-kind-of c = search needs
+mul-kind-from : tie.Need-mul-kind-from
+mul-kind-from c = search needs
 
-slice-read-kind-of : tie.Need-slice-read-kind-of
-slice-read-kind-of c = let l = long (c .before .before) in let f = slot-below _ _ (c .before .slot .ensures) in search needs
+slice-read-kind-from : tie.Need-slice-read-kind-from
+slice-read-kind-from c = let l = long (c .before .before) in let f = slot-below _ _ (c .before .slot .ensures) in search needs
 
-kind-of-requires : tie.Need-kind-of-requires
-kind-of-requires c κs = search needs
+kind-from-requires : tie.Need-kind-from-requires
+kind-from-requires c κs = search needs
 
 sub-start-permit : tie.Need-sub-start-permit
 sub-start-permit c = search needs
@@ -141,10 +141,10 @@ start-in-spec =
     slot-requires
     mul-at
     add-at
-    add-kind-of
-    mul-kind-of
-    slice-read-kind-of
-    kind-of-requires
+    add-kind-from
+    mul-kind-from
+    slice-read-kind-from
+    kind-from-requires
     sub-start-permit
     part-start-permit-start
     part-start-permit-end

@@ -27,7 +27,7 @@ permit-is c =
     c .step-permit .ensures _
     (record {
       same = header-at (a .words .now) (a .process) (known s);
-      found = λ h. kind-at (a .words .now) (a .process) (a .process) refl h ∙ sym (c .before .before .before .before .before .before .kind-of .ensures);
+      found = λ h. kind-at (a .words .now) (a .process) (a .process) refl h ∙ sym (c .before .before .before .before .before .before .kind-from .ensures);
     })
     ∙ permit-known _ _ _ _ _ (known s)
 
@@ -37,17 +37,17 @@ mul-at c = search needs
 add-at : tie.Need-add-at
 add-at c = search needs
 
-add-kind-of : tie.Need-add-kind-of
-add-kind-of c = search needs
+add-kind-from : tie.Need-add-kind-from
+add-kind-from c = search needs
 
-mul-kind-of : tie.Need-mul-kind-of
-mul-kind-of c = search needs
+mul-kind-from : tie.Need-mul-kind-from
+mul-kind-from c = search needs
 
-slice-read-kind-of : tie.Need-slice-read-kind-of
-slice-read-kind-of c = let l = long (c .before .before .before .before .before) in let f = c .before .before .before .before .before .pre .0 in search needs
+slice-read-kind-from : tie.Need-slice-read-kind-from
+slice-read-kind-from c = let l = long (c .before .before .before .before .before) in let f = c .before .before .before .before .before .pre .0 in search needs
 
-kind-of-requires : tie.Need-kind-of-requires
-kind-of-requires c κs = search needs
+kind-from-requires : tie.Need-kind-from-requires
+kind-from-requires c κs = search needs
 
 sub-step-permit : tie.Need-sub-step-permit
 sub-step-permit c = search needs
@@ -106,10 +106,10 @@ step-known-spec =
     (tie.spec
     mul-at
     add-at
-    add-kind-of
-    mul-kind-of
-    slice-read-kind-of
-    kind-of-requires
+    add-kind-from
+    mul-kind-from
+    slice-read-kind-from
+    kind-from-requires
     sub-step-permit
     part-step-permit-start
     part-step-permit-end

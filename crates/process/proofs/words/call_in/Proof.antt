@@ -3,11 +3,11 @@ use borrow.Author.Needs.{needs}
 use Rattle.process.proofs.words.call_in.Statement.{statement}
 use Rattle.process.proofs.words.call_in.Tie as tie
 
-shared-slice-read-kind-of : tie.Need-shared-slice-read-kind-of
-shared-slice-read-kind-of c = search needs
+shared-slice-read-kind-from : tie.Need-shared-slice-read-kind-from
+shared-slice-read-kind-from c = search needs
 
-kind-of-requires : tie.Need-kind-of-requires
-kind-of-requires c κs = search needs
+kind-from-requires : tie.Need-kind-from-requires
+kind-from-requires c κs = search needs
 
 shared-slice-read-joined : tie.Need-shared-slice-read-joined
 shared-slice-read-joined c = search needs
@@ -31,14 +31,14 @@ shared-slice-read-t17 : tie.Need-shared-slice-read-t17
 shared-slice-read-t17 c = search needs
 
 returns : tie.Need-returns
-returns c = simp (c .before .before .before .before .before .before .before .kind-of .ensures, c .before .before .before .before .joined .ensures)
+returns c = simp (c .before .before .before .before .before .before .before .kind-from .ensures, c .before .before .before .before .joined .ensures)
 
 pub call-in-spec : {M : Type 1} → statement M
 call-in-spec =
     tie.close
     (tie.spec
-    shared-slice-read-kind-of
-    kind-of-requires
+    shared-slice-read-kind-from
+    kind-from-requires
     shared-slice-read-joined
     shared-slice-read-joined-2
     joined-requires

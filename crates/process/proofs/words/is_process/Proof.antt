@@ -1,8 +1,8 @@
 -- The three tests, one after another.
 use native.Mathlib.Omega.{arith}
 use lib.ListN.{length, getD}
+use Rattle.model.specs.Numbers.{kinds, phases}
 use Rattle.model.specs.Layout.{wordSize}
-use Rattle.process.specs.Numbers.{kinds, phases}
 use Rattle.process.specs.ProcessWords.{processOffsets}
 use borrow.Author.Tests.{lt-ltb, le-ltb}
 use borrow.Author.Needs.{needs}

@@ -1,13 +1,13 @@
 -- A number past the last is taken for the default.
 use mathlib.Core.Path.{sym}
 use native.Mathlib.Omega.{arith}
-use Rattle.process.proofs.Past.{past}
+use Rattle.values.proofs.Past.{past}
 use lib.ListN.{List·getD-eq-default}
 use Rattle.model.specs.declared.types.Phase.{Phase}
-use Rattle.process.specs.Numbers.{phases}
+use Rattle.model.specs.Numbers.{phases}
 use borrow.Author.Needs.{needs}
-use Rattle.process.proofs.numbers.phase_of.Statement.{statement}
-use Rattle.process.proofs.numbers.phase_of.Tie as tie
+use Rattle.values.proofs.numbers.phase_from.Statement.{statement}
+use Rattle.values.proofs.numbers.phase_from.Tie as tie
 
 returns : tie.Need-returns
 returns c = search needs
@@ -43,8 +43,8 @@ returns-10 c = let r = c .match .rest in sym (List·getD-eq-default phases Phase
     (c .before .args .word) (omega arith) (r .0 .0 .0 .0 .0 .0 .0 .0 .1)) (r .0 .0 .0 .0 .0 .0 .0 .1)) (r .0 .0 .0 .0 .0 .0 .1))
     (r .0 .0 .0 .0 .0 .1)) (r .0 .0 .0 .0 .1)) (r .0 .0 .0 .1)) (r .0 .0 .1)) (r .0 .1)) (r .1)))
 
-pub phase-of-spec : {M : Type 1} → statement M
-phase-of-spec =
+pub phase-from-spec : {M : Type 1} → statement M
+phase-from-spec =
     tie.close
     (tie.spec
     returns

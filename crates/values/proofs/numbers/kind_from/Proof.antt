@@ -3,10 +3,10 @@ use mathlib.Core.Path.{sym}
 use native.Mathlib.Omega.{arith}
 use lib.ListN.{List·getD-eq-default}
 use Rattle.model.specs.declared.types.Kind.{Kind}
-use Rattle.process.specs.Numbers.{kinds}
+use Rattle.model.specs.Numbers.{kinds}
 use borrow.Author.Needs.{needs}
-use Rattle.process.proofs.numbers.kind_of.Statement.{statement}
-use Rattle.process.proofs.numbers.kind_of.Tie as tie
+use Rattle.values.proofs.numbers.kind_from.Statement.{statement}
+use Rattle.values.proofs.numbers.kind_from.Tie as tie
 
 returns : tie.Need-returns
 returns c = search needs
@@ -20,5 +20,5 @@ returns-3 c = search needs
 returns-4 : tie.Need-returns-4
 returns-4 c = let r = c .match .rest in sym (List·getD-eq-default kinds Kind.Get {n = c .before .args .word} (omega arith))
 
-pub kind-of-spec : {M : Type 1} → statement M
-kind-of-spec = tie.close (tie.spec returns returns-2 returns-3 returns-4)
+pub kind-from-spec : {M : Type 1} → statement M
+kind-from-spec = tie.close (tie.spec returns returns-2 returns-3 returns-4)
