@@ -19,11 +19,11 @@ pub struct Buffers {
 
 impl Buffers {
     // One record more than the greatest lawful table has: a table that is too long can be asked for, and is refused.
-    pub const NODES: usize = 16400;
+    pub const NODES: usize = State::NODE_WORDS as usize * (State::NODES as usize + 2);
 
-    pub const VERSIONS: usize = 12291;
+    pub const VERSIONS: usize = State::VERSION_WORDS as usize * (State::VERSIONS as usize + 2);
 
-    pub const TALLY: usize = 7;
+    pub const TALLY: usize = State::ANSWERS as usize;
 
     // Never called: it ties the constants to the definitions.
     pub fn sizes() -> Self

@@ -20,7 +20,7 @@ use Rattle.model.specs.ByValue.{fittingOf, opensBy}
 use Rattle.layout.specs.StateWords.{stateFrom}
 use Rattle.lent.specs.Calls.{OpenIn, openedIn, StartIn, startedIn, StepIn, steppedIn}
 use Rattle.lent.specs.Lent.{Lent, Lending, freshLent, withWords, steppedLent}
-use Rattle.replies.specs.Told.{Told, openTold, startTold, stepTold, lookTold, inspectTold, statusTold}
+use Rattle.replies.specs.Told.{Told, moved, waited, openTold, startTold, stepTold, lookTold, inspectTold, statusTold}
 use Rattle.embed.specs.Calls.{TrayOpen, trayOpen, TrayStart, trayStart, TrayStep, trayStep, trayLook, trayInspect, trayStanding}
 
 -- ---- what a number and answer words mean: the way back from `openTold` .. `statusTold`
@@ -39,11 +39,11 @@ word t n = getD (t .answer) n 0
 unfoldable pub startMeant : Told → Starting
 startMeant t = byNumber (t .number) (Starting.Started (word t 0)) Starting.Refused
 
--- on 0, wait 1 or done 2, and the tick
+-- what the step did, and the tick
 abbrev pub steppedMeant : Told → Stepping
 steppedMeant t =
-    if eqb (word t 0) 0 then Stepping.Moved (word t 1)
-    else if eqb (word t 0) 1 then Stepping.Waited (word t 1)
+    if eqb (word t 0) moved then Stepping.Moved (word t 1)
+    else if eqb (word t 0) waited then Stepping.Waited (word t 1)
     else Stepping.Finished (record {
       kind = kindFrom (word t 2);
       answer = answerOf (word t 3);

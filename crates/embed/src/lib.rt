@@ -18,6 +18,10 @@ use lentstep::step::step_in;
 use model::types::Key;
 use model::types::State;
 use process::types::Sizes;
+use replies::told::INSPECT_WORDS;
+use replies::told::LOOK_WORDS;
+use replies::told::STATUS_WORDS;
+use replies::told::STEP_WORDS;
 use replies::told::tell_inspect;
 use replies::told::tell_look;
 use replies::told::tell_open;
@@ -135,7 +139,7 @@ pub extern "C" fn tray_step(
     readings: &mut [u32],
     tally: &mut [u32],
     station: u32,
-    answer: &mut [u32; 8],
+    answer: &mut [u32; STEP_WORDS],
 ) -> u32
     ensures { λ r. ⌜ trayStepped (reply r (now (answer .exit)))
         (now (state .exit)) (now (nodes .exit)) (now (readings .exit)) (now (tally .exit))
@@ -153,7 +157,7 @@ pub extern "C" fn tray_look(
     readings: &[u32],
     tray: Key,
     back: u32,
-    answer: &mut [u32; 2],
+    answer: &mut [u32; LOOK_WORDS],
 ) -> u32
     ensures { λ r. ⌜ reply r (now (answer .exit))
         ≡ trayLook (now (state .entry)) (now (nodes .entry)) (now (readings .entry)) tray back ⌝ }
@@ -168,7 +172,7 @@ pub extern "C" fn tray_inspect(
     state: &[u32],
     nodes: &[u32],
     readings: &[u32],
-    answer: &mut [u32; 3],
+    answer: &mut [u32; INSPECT_WORDS],
 ) -> u32
     ensures { λ r. ⌜ reply r (now (answer .exit))
         ≡ trayInspect (now (state .entry)) (now (nodes .entry)) (now (readings .entry)) ⌝ }
@@ -179,7 +183,11 @@ pub extern "C" fn tray_inspect(
 
 // Is lent no tables: what a station does stands in the state alone.
 #[no_mangle]
-pub extern "C" fn tray_standing(state: &[u32], station: u32, answer: &mut [u32; 3]) -> u32
+pub extern "C" fn tray_standing(
+    state: &[u32],
+    station: u32,
+    answer: &mut [u32; STATUS_WORDS],
+) -> u32
     ensures { λ r. ⌜ reply r (now (answer .exit)) ≡ trayStanding (now (state .entry)) station ⌝ }
 {
     let outcome = status_in(state, station);

@@ -1,5 +1,5 @@
 -- What C is told of an outcome: 0 or the refusal's number, and answer words, all 0 where the call is refused.
-use Prim.Native.Nat.{ℕ}
+use Prim.Native.Nat.{ℕ, _-_}
 use mathlib.Core.List.{List, [], _∷_}
 use lib.ListN.{replicate}
 use Rattle.model.specs.declared.types.Finish.{Finish}
@@ -34,30 +34,61 @@ unfoldable pub startTold : Starting → Told
 startTold (Starting.Refused r) = refused 1 r
 startTold (Starting.Started t) = accepted (t ∷ [])
 
--- on 0, wait 1 or done 2, and the tick; where done, "kind, answer, value, stamp [..] and the ticks of start, effect"
+-- how many words the answer of each call has
+abbrev pub stepWords : ℕ
+stepWords = 8
+
+abbrev pub lookWords : ℕ
+lookWords = 2
+
+abbrev pub inspectWords : ℕ
+inspectWords = 3
+
+abbrev pub statusWords : ℕ
+statusWords = 3
+
+-- what a step did, in its first word
+abbrev pub moved : ℕ
+moved = 0
+
+abbrev pub waited : ℕ
+waited = 1
+
+abbrev pub finished : ℕ
+finished = 2
+
+-- what an inspection found, in its first word; sound is 0
+abbrev pub fault : ℕ
+fault = 1
+
+-- what the step did, and the tick
+abbrev pub eventWords : (told tick : ℕ) → List ℕ
+eventWords told t = told ∷ t ∷ replicate (stepWords - 2) 0
+
+-- the same, and "kind, answer, value, stamp [..] and the ticks of start, effect"
 abbrev pub finishWords : Finish → List ℕ
 finishWords f =
-    2 ∷ f .finish ∷ kindNumber (f .kind) ∷ placeOf (f .answer) ∷ f .value ∷ f .timestamp ∷ f .start ∷ f .effect ∷ []
+    finished ∷ f .finish ∷ kindNumber (f .kind) ∷ placeOf (f .answer) ∷ f .value ∷ f .timestamp ∷ f .start ∷ f .effect ∷ []
 
 unfoldable pub stepTold : Stepping → Told
-stepTold (Stepping.Refused r) = refused 8 r
-stepTold (Stepping.Moved t) = accepted (0 ∷ t ∷ replicate 6 0)
-stepTold (Stepping.Waited t) = accepted (1 ∷ t ∷ replicate 6 0)
+stepTold (Stepping.Refused r) = refused stepWords r
+stepTold (Stepping.Moved t) = accepted (eventWords moved t)
+stepTold (Stepping.Waited t) = accepted (eventWords waited t)
 stepTold (Stepping.Finished f) = accepted (finishWords f)
 
 -- value and stamp
 unfoldable pub lookTold : Looking → Told
-lookTold (Looking.Refused r) = refused 2 r
+lookTold (Looking.Refused r) = refused lookWords r
 lookTold (Looking.Shown v) = accepted (v .value ∷ v .timestamp ∷ [])
 
--- sound 0, or fault 1 with "level and node reached"
+-- sound, or a fault with "level and node reached"
 unfoldable pub inspectTold : Inspecting → Told
-inspectTold (Inspecting.Refused r) = refused 3 r
-inspectTold Inspecting.Sound = accepted (replicate 3 0)
-inspectTold (Inspecting.Fault level node) = accepted (1 ∷ level ∷ node ∷ [])
+inspectTold (Inspecting.Refused r) = refused inspectWords r
+inspectTold Inspecting.Sound = accepted (replicate inspectWords 0)
+inspectTold (Inspecting.Fault level node) = accepted (fault ∷ level ∷ node ∷ [])
 
 -- "idle, or kind, start tick and effect tick"
 unfoldable pub statusTold : Status → Told
-statusTold (Status.Refused r) = refused 3 r
-statusTold Status.Idle = accepted (replicate 3 0)
+statusTold (Status.Refused r) = refused statusWords r
+statusTold Status.Idle = accepted (replicate statusWords 0)
 statusTold (Status.Running kind start effect) = accepted (kindNumber kind ∷ start ∷ effect ∷ [])

@@ -2,7 +2,7 @@
 // nothing of an earlier call is left there to be taken for an answer.
 ghost use mathlib.Core.Path.{_≡_};
 ghost use mathlib.Core.List.{[], _∷_};
-ghost use Rattle.replies.specs.Told.{reply, openTold, startTold, finishWords, stepTold, lookTold, inspectTold, statusTold};
+ghost use Rattle.replies.specs.Told.{reply, openTold, startTold, eventWords, finishWords, stepTold, lookTold, inspectTold, statusTold};
 use model::types::Finish;
 use model::types::Inspecting;
 use model::types::Looking;
@@ -13,6 +13,25 @@ use model::types::Stepping;
 use values::numbers::kind_number;
 use values::numbers::number_of;
 use values::numbers::place_of;
+
+// How many words the answer of each call has.
+pub const STEP_WORDS: usize = 8;
+
+pub const LOOK_WORDS: usize = 2;
+
+pub const INSPECT_WORDS: usize = 3;
+
+pub const STATUS_WORDS: usize = 3;
+
+// What a step did, in its first word.
+const MOVED: u32 = 0;
+
+const WAITED: u32 = 1;
+
+const FINISHED: u32 = 2;
+
+// What an inspection found, in its first word; sound is 0.
+const FAULT: u32 = 1;
 
 // An opening has no answer beside its number.
 pub fn tell_open(outcome: Opening) -> u32
@@ -40,14 +59,21 @@ pub fn tell_start(outcome: Starting, tick: &mut u32) -> u32
     }
 }
 
+// What a step tells that ends no call.
+fn event_words(told: u32, tick: u32) -> [u32; STEP_WORDS]
+    ensures { λ r. ⌜ r ≡ eventWords told tick ⌝ }
+{
+    [told, tick, 0, 0, 0, 0, 0, 0]
+}
+
 // What a finishing step tells: the tick stands second in every step's answer, so the finish comes before the kind.
-fn finish_words(f: Finish) -> [u32; 8]
+fn finish_words(f: Finish) -> [u32; STEP_WORDS]
     ensures { λ r. ⌜ r ≡ finishWords f ⌝ }
 {
     let kind = f.kind;
     let answer = f.answer;
     [
-        2,
+        FINISHED,
         f.finish,
         kind_number(kind),
         place_of(answer),
@@ -59,20 +85,20 @@ fn finish_words(f: Finish) -> [u32; 8]
 }
 
 // Eight words for every outcome, those that it does not use 0, so that a caller may read them all without a test.
-pub fn tell_step(outcome: Stepping, answer: &mut [u32; 8]) -> u32
+pub fn tell_step(outcome: Stepping, answer: &mut [u32; STEP_WORDS]) -> u32
     ensures { λ r. ⌜ reply r (now (answer .exit)) ≡ stepTold outcome ⌝ }
 {
     match outcome {
         Stepping::Refused(refusal) => {
-            *answer = [0; 8];
+            *answer = [0; STEP_WORDS];
             number_of(refusal)
         }
         Stepping::Moved(tick) => {
-            *answer = [0, tick, 0, 0, 0, 0, 0, 0];
+            *answer = event_words(MOVED, tick);
             0
         }
         Stepping::Waited(tick) => {
-            *answer = [1, tick, 0, 0, 0, 0, 0, 0];
+            *answer = event_words(WAITED, tick);
             0
         }
         Stepping::Finished(finish) => {
@@ -83,12 +109,12 @@ pub fn tell_step(outcome: Stepping, answer: &mut [u32; 8]) -> u32
 }
 
 // Value and timestamp: any two words may be a version, so that only the number tells a refusal from one of zeroes.
-pub fn tell_look(outcome: Looking, answer: &mut [u32; 2]) -> u32
+pub fn tell_look(outcome: Looking, answer: &mut [u32; LOOK_WORDS]) -> u32
     ensures { λ r. ⌜ reply r (now (answer .exit)) ≡ lookTold outcome ⌝ }
 {
     match outcome {
         Looking::Refused(refusal) => {
-            *answer = [0; 2];
+            *answer = [0; LOOK_WORDS];
             number_of(refusal)
         }
         Looking::Shown(version) => {
@@ -99,36 +125,36 @@ pub fn tell_look(outcome: Looking, answer: &mut [u32; 2]) -> u32
 }
 
 // A fault is no refusal: the call did what was asked, and the number is 0.
-pub fn tell_inspect(outcome: Inspecting, answer: &mut [u32; 3]) -> u32
+pub fn tell_inspect(outcome: Inspecting, answer: &mut [u32; INSPECT_WORDS]) -> u32
     ensures { λ r. ⌜ reply r (now (answer .exit)) ≡ inspectTold outcome ⌝ }
 {
     match outcome {
         Inspecting::Refused(refusal) => {
-            *answer = [0; 3];
+            *answer = [0; INSPECT_WORDS];
             number_of(refusal)
         }
         Inspecting::Sound => {
-            *answer = [0; 3];
+            *answer = [0; INSPECT_WORDS];
             0
         }
         Inspecting::Fault(level, node) => {
-            *answer = [1, level, node];
+            *answer = [FAULT, level, node];
             0
         }
     }
 }
 
 // The kind's number tells whether there is a call: it is 0 for a process that has none, as its two ticks are.
-pub fn tell_status(outcome: Status, answer: &mut [u32; 3]) -> u32
+pub fn tell_status(outcome: Status, answer: &mut [u32; STATUS_WORDS]) -> u32
     ensures { λ r. ⌜ reply r (now (answer .exit)) ≡ statusTold outcome ⌝ }
 {
     match outcome {
         Status::Refused(refusal) => {
-            *answer = [0; 3];
+            *answer = [0; STATUS_WORDS];
             number_of(refusal)
         }
         Status::Idle => {
-            *answer = [0; 3];
+            *answer = [0; STATUS_WORDS];
             0
         }
         Status::Running(kind, start, effect) => {

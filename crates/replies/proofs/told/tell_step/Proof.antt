@@ -13,8 +13,14 @@ number-of-requires c κs = search needs
 enum-known-outcome-2 : tie.Need-enum-known-outcome-2
 enum-known-outcome-2 c = search needs
 
+event-words-requires : tie.Need-event-words-requires
+event-words-requires c κs = search needs
+
 enum-known-outcome-3 : tie.Need-enum-known-outcome-3
 enum-known-outcome-3 c = search needs
+
+event-words-requires-2 : tie.Need-event-words-requires-2
+event-words-requires-2 c κs = search needs
 
 enum-known-outcome-4 : tie.Need-enum-known-outcome-4
 enum-known-outcome-4 c = search needs
@@ -28,11 +34,11 @@ returns c = simp (c .number-of .ensures, c .before .before .before .outcome .giv
 
 returns-2 : tie.Need-returns-2
 unfolding stepTold
-returns-2 c = simp (c .before .before .outcome2 .given .1)
+returns-2 c = simp (c .event-words .ensures, c .before .before .outcome2 .given .1)
 
 returns-3 : tie.Need-returns-3
 unfolding stepTold
-returns-3 c = simp (c .before .before .outcome3 .given .1)
+returns-3 c = simp (c .event-words2 .ensures, c .before .before .outcome3 .given .1)
 
 returns-4 : tie.Need-returns-4
 unfolding stepTold
@@ -45,7 +51,9 @@ tell-step-spec =
     enum-known-outcome
     number-of-requires
     enum-known-outcome-2
+    event-words-requires
     enum-known-outcome-3
+    event-words-requires-2
     enum-known-outcome-4
     finish-words-requires
     returns
