@@ -18,11 +18,11 @@ use model::types::Kind;
 use model::types::Permit;
 use model::types::Refusal;
 use model::types::Starting;
+use numbers::kind_from;
 use process::types::ProcessOffsets;
 use process::types::Sizes;
 use process::words::put_process;
 use refusals::permit::start_permit;
-use values::numbers::kind_from;
 
 // The words of the process that stand at `at`, and the event: the counts in use are written back as they were.
 fn begin_in(words: &mut [u32], at: usize, call: Call)

@@ -16,11 +16,11 @@ use model::types::Permit;
 use model::types::Refusal;
 use model::types::State;
 use model::types::Stepping;
+use numbers::kind_from;
 use process::types::ProcessOffsets;
 use process::types::Sizes;
 use refusals::permit::step_permit;
 use transition::step::transition;
-use values::numbers::kind_from;
 
 // A number past the last process has no words: its step is refused.
 fn step_past(

@@ -14,7 +14,7 @@ use model::types::Answer;
 use model::types::Finish;
 use model::types::Key;
 use model::types::Kind;
-use values::numbers::number_of;
+use numbers::number_of;
 
 // How the line of a finished call begins.
 fn kind_format(kind: Kind) -> Format

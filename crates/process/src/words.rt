@@ -12,15 +12,15 @@ use model::types::Kind;
 use model::types::Phase;
 use model::types::Process;
 use model::types::State;
+use numbers::answer_of;
+use numbers::kind_from;
+use numbers::kind_number;
+use numbers::phase_from;
+use numbers::phase_number;
+use numbers::place_of;
 use values::halves::high_half;
 use values::halves::joined;
 use values::halves::low_half;
-use values::numbers::answer_of;
-use values::numbers::kind_from;
-use values::numbers::kind_number;
-use values::numbers::phase_from;
-use values::numbers::phase_number;
-use values::numbers::place_of;
 
 pub fn call_in(w: &[u32]) -> Call
     requires { ⌜ length (now w) ≡ sizes .process ⌝ }

@@ -10,9 +10,9 @@ use model::types::Opening;
 use model::types::Starting;
 use model::types::Status;
 use model::types::Stepping;
-use values::numbers::kind_number;
-use values::numbers::number_of;
-use values::numbers::place_of;
+use numbers::kind_number;
+use numbers::number_of;
+use numbers::place_of;
 
 // How many words the answer of each call has.
 pub const STEP_WORDS: usize = 8;

@@ -1,8 +1,8 @@
 -- Each refusal by its case.
 use Rattle.model.specs.Numbers.{numberOf}
 use borrow.Author.Needs.{needs}
-use Rattle.values.proofs.numbers.number_of.Statement.{statement}
-use Rattle.values.proofs.numbers.number_of.Tie as tie
+use Rattle.numbers.proofs.number_of.Statement.{statement}
+use Rattle.numbers.proofs.number_of.Tie as tie
 
 enum-told : tie.Need-enum-told
 enum-told c = search needs

@@ -1,8 +1,8 @@
 -- Each arm of the match gives the definition's case.
 use Rattle.model.specs.Numbers.{placeOf}
 use borrow.Author.Needs.{needs}
-use Rattle.values.proofs.numbers.place_of.Statement.{statement}
-use Rattle.values.proofs.numbers.place_of.Tie as tie
+use Rattle.numbers.proofs.place_of.Statement.{statement}
+use Rattle.numbers.proofs.place_of.Tie as tie
 
 enum-told : tie.Need-enum-told
 enum-told c = search needs

@@ -1,13 +1,13 @@
 -- A number past the last is taken for the default.
 use mathlib.Core.Path.{sym}
 use native.Mathlib.Omega.{arith}
-use Rattle.values.proofs.Past.{past}
+use Rattle.numbers.proofs.Past.{past}
 use lib.ListN.{List·getD-eq-default}
 use Rattle.model.specs.declared.types.Answer.{Answer}
 use Rattle.model.specs.Numbers.{answers}
 use borrow.Author.Needs.{needs}
-use Rattle.values.proofs.numbers.answer_of.Statement.{statement}
-use Rattle.values.proofs.numbers.answer_of.Tie as tie
+use Rattle.numbers.proofs.answer_of.Statement.{statement}
+use Rattle.numbers.proofs.answer_of.Tie as tie
 
 returns : tie.Need-returns
 returns c = search needs

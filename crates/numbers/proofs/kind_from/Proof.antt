@@ -5,8 +5,8 @@ use lib.ListN.{List·getD-eq-default}
 use Rattle.model.specs.declared.types.Kind.{Kind}
 use Rattle.model.specs.Numbers.{kinds}
 use borrow.Author.Needs.{needs}
-use Rattle.values.proofs.numbers.kind_from.Statement.{statement}
-use Rattle.values.proofs.numbers.kind_from.Tie as tie
+use Rattle.numbers.proofs.kind_from.Statement.{statement}
+use Rattle.numbers.proofs.kind_from.Tie as tie
 
 returns : tie.Need-returns
 returns c = search needs
