@@ -6,6 +6,7 @@ use lib.Dec.{leb}
 use lib.ListN.{length, drop}
 use Rattle.model.specs.declared.types.Refusal.the-variants.{UnknownCommand, CutShort}
 use Rattle.model.specs.Choice.{if_then_else_}
+use Rattle.decoder.specs.declared.types.Command.{Command}
 use Rattle.decoder.specs.declared.types.Decoded.{Decoded}
 use Rattle.decoder.specs.declared.types.Decoded.the-variants.{Whole, Unknown, Short, End}
 use Rattle.decoder.specs.Commands.{commandFrom}
@@ -34,12 +35,17 @@ pub record Within (p : Played) (bytes out : List ℕ) : Type 0 where
   pub read : p .read ≤ length bytes
   pub next : p .next ≤ length out
 
+-- what a command leaves, and its line on the page; the next one stands at `read`
 abbrev pub printed : Playing → (read : ℕ) → Done → Playing
-printed p n d = record { session = d .session; read = p .read + n; page = printOf (p .page .bytes) (p .page .next) (d .line) }
+printed p read d = record { session = d .session; read = read; page = printOf (p .page .bytes) (p .page .next) (d .line) }
 
--- a whole command is performed and its line printed; nothing else is played
+-- a whole command is performed and its line printed
+abbrev pub played : Playing → Command → (read : ℕ) → Playing
+played p c read = printed p read (performOf (p .session) c)
+
+-- nothing else is played
 abbrev pub playNext : Playing → Decoded → Playing
-playNext p (Whole c n) = printed p n (performOf (p .session) c)
+playNext p (Whole c n) = played p c (p .read + n)
 playNext p Unknown = p
 playNext p Short = p
 playNext p End = p

@@ -1,14 +1,15 @@
 // Commands one after another, and what is left where no more can be played.
-ghost use Prim.Native.Nat.{_+_};
-ghost use mathlib.Core.Bool.{false};
+ghost use Prim.Native.Nat.{_+_, _≤_};
+ghost use mathlib.Core.Bool.{true, false};
 ghost use mathlib.Core.Path.{_≡_};
 ghost use lib.Dec.{leb};
 ghost use lib.ListN.{length};
 ghost use Rattle.printer.specs.Lines.{room};
-ghost use Rattle.interpreter.specs.Sheet.{playing, Within, playOne, playOf, restOf};
+ghost use Rattle.interpreter.specs.Sheet.{playing, Within, played, playOne, playOf, restOf};
 use crate::types::Played;
 use crate::types::Rest;
 use decoder::decode::decode;
+use decoder::types::Command;
 use decoder::types::Decoded;
 use executor::perform::perform;
 use model::types::Refusal;
@@ -40,6 +41,34 @@ fn has_room(out: &[u8], next: usize) -> bool
     true
 }
 
+// A whole command: it is performed and its line printed, and the next one stands at `read`.
+fn play_command(
+    p: Played,
+    command: Command,
+    read: usize,
+    nodes: &mut [u32],
+    versions: &mut [u32],
+    tally: &mut [u32],
+    out: &mut [u8],
+) -> Played
+    ensures { λ r. ⌜ playing r (now (nodes .exit)) (now (versions .exit)) (now (tally .exit)) (now (out .exit))
+        ≡ played (playing p (now (nodes .entry)) (now (versions .entry)) (now (tally .entry)) (now (out .entry))) command read ⌝ }
+    ensures { λ r. ⌜ (p .next ≤ length (now (out .entry)) → r .next ≤ length (now (out .entry))) ⌝ }
+    ensures { λ r. ⌜ r .more ≡ true ⌝ }
+{
+    let state = p.state;
+    let done = perform(state, command, nodes, versions, tally);
+    let line = done.line;
+    let after = done.state;
+    let next = line.print(out, p.next);
+    Played {
+        state: after,
+        read,
+        next,
+        more: true,
+    }
+}
+
 fn play_one(
     p: Played,
     bytes: &[u8],
@@ -62,17 +91,8 @@ fn play_one(
     let found = decode(bytes, p.read);
     match found {
         Decoded::Whole(command, count) => {
-            let state = p.state;
-            let done = perform(state, command, nodes, versions, tally);
-            let line = done.line;
-            let after = done.state;
-            let next = line.print(out, p.next);
-            Played {
-                state: after,
-                read: p.read + count,
-                next,
-                more: true,
-            }
+            let read = p.read + count;
+            play_command(p, command, read, nodes, versions, tally, out)
         }
         Decoded::Unknown => stay(p),
         Decoded::Short => stay(p),

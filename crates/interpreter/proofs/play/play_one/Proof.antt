@@ -1,5 +1,5 @@
 -- Room for a line and a whole command, or the run stands.
-use mathlib.Core.Path.{sym, _∙_}
+use mathlib.Core.Path.{sym, ap, _∙_}
 use native.Mathlib.Omega.{arith}
 use borrow.Author.Tests.{not-true, not-false}
 use Rattle.interpreter.specs.Sheet.{playOne}
@@ -37,27 +37,16 @@ decode-requires c κs = search needs
 enum-known-found : tie.Need-enum-known-found
 enum-known-found c = search needs
 
-perform-requires : tie.Need-perform-requires
-perform-requires c κs = search needs
+abbrev start : tie.After-struct-known → tie.Start
+start c = c .before .before .before .before .before .before .before .before .before .before .before .before .before
 
-print-requires : tie.Need-print-requires
-print-requires c κs = search needs
+add-read : tie.Need-add-read
+add-read c =
+    let w = whole-within (start c .args .bytes .now) (start c .args .p .read) _ _ (sym (c .before .before .found .given .1) ∙ c .before .before .before .before .decode .ensures) in
+    omega (arith, start c .good .1 .0 .0)
 
-add-t28 : tie.Need-add-t28
-add-t28 c =
-    let a = c .before .before .before .before .before .before .before .before .before .before .before .before .before .before .before
-    .before .before .before .before .before .before .before .before .before .before .before .before .before .before .args in
-    let w = whole-within (a .bytes .now) (a .p .read) _ _ (sym
-    (c .before .before .before .before .before .before .before .before .before .before .before .before .before .before .before
-    .before .before .before .found .given .1)
-    ∙ c .before .before .before .before .before .before .before .before .before .before .before .before .before .before .before
-    .before .before .before .before .before .decode .ensures) in
-    omega (
-      arith,
-      c .before .before .before .before .before .before .before .before .before .before .before .before .before .before
-          .before .before .before .before .before .before .before .before .before .before .before .before .before .before .before .good
-          .1 .0 .0,
-    )
+play-command-requires : tie.Need-play-command-requires
+play-command-requires c κs = search needs
 
 enum-told : tie.Need-enum-told
 enum-told c = search needs
@@ -92,38 +81,19 @@ same-length-5 c = search needs
 returns-2 : tie.Need-returns-2
 unfolding playOne
 returns-2 c =
-    let e = c .before .before .before .before .before .before .before .before .before .before .before .before .perform .ensures in
-    let f = c .before .before .before .print .ensures .0 in
-    let a = c .before .before .before .before .before .before .before .before .before .before .before .before .before .before .before
-    .before .before .before .before .before .before .before .before .before .before .before .before .before .before .args in
-    let w = whole-within (a .bytes .now) (a .p .read) _ _ (sym
-    (c .before .before .before .before .before .before .before .before .before .before .before .before .before .before .before
-    .before .before .before .found .given .1)
-    ∙ c .before .before .before .before .before .before .before .before .before .before .before .before .before .before .before
-    .before .before .before .before .before .decode .ensures) in (
+    let d = c .before .before .before .before .before .before .before .before .before .before .before .before .before in
+    let e = c .before .before .before .before .before .before .before .before .play-command .ensures in
+    let w = whole-within (start d .args .bytes .now) (start d .args .p .read) _ _ (sym (d .before .before .found .given .1) ∙ d .before .before .before .before .decode .ensures) in (
       simp (
-        ← c .before .before .before .before .before .before .before .before .before .before .before .before .before .before .before
-            .before .before .before .before .before .before .before .has-room .ensures,
-        not-false (c .before .before .before .before .before .before .before .before .before .before .before .before .before .before
-            .before .before .before .before .before .before .before .before .has-room .result)
-            (c .before .before .before .before .before .before .before .before .before .before .before .before .before .before .before
-            .before .before .before .before .before .before .if1 .left),
-        ← c .before .before .before .before .before .before .before .before .before .before .before .before .before .before .before
-            .before .before .before .before .before .decode .ensures,
-        c .before .before .before .before .before .before .before .before .before .before .before .before .before .before .before
-            .before .before .before .found .given .1,
-        ← e,
-        ← f,
+        ← d .before .before .before .before .before .before .has-room .ensures,
+        not-false (d .before .before .before .before .before .before .has-room .result) (d .before .before .before .before .before .if1 .left),
+        ← d .before .before .before .before .decode .ensures,
+        d .before .before .found .given .1,
+        ← e .0,
       ),
       (
-        λ h. cc,
-        λ h. record {
-          read = omega (
-            arith,
-            h .read,
-          );
-          next = c .before .before .before .print .ensures .1 (h .next);
-        },
+        λ h. let m = e .1 .1 in cc,
+        λ h. record { read = omega (arith, h .read, ap (λ q. q .read) (e .0)); next = e .1 .0 (h .next) },
       ),
     )
 
@@ -194,9 +164,8 @@ play-one-spec =
     returns
     decode-requires
     enum-known-found
-    perform-requires
-    print-requires
-    add-t28
+    add-read
+    play-command-requires
     enum-told
     stay-requires-2
     enum-told-2
