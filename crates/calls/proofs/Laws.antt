@@ -14,8 +14,7 @@ use Rattle.model.specs.State.{processAt, memoryOf, withEvent}
 use Rattle.model.specs.Phases.{Moved, moved, transitionOf, refuses}
 use Rattle.model.specs.Calls.{stepPermit, Store, Stepped, stepBy, stepOf, processAfter, outcomeOf, tallyAfter}
 use Rattle.model.proofs.Laws.{refused-is, transition-keeps}
-use Rattle.tables.specs.Room.{Lent, memory}
-use Rattle.refusals.proofs.Laws.{MayStep}
+use Rattle.tables.specs.Room.{memory}
 use Rattle.calls.specs.Advance.{Advance, advanceBy, advanceOf}
 
 -- ---- advance
@@ -40,12 +39,6 @@ unfolding advanceBy
 moved-advance tick p tally v m o q t e f g h = simp (e, f, g, h)
 
 -- ---- step
-
--- what refusal 10's test tells is all that `advance` asks for
-pub lent-may-step : (w : Store) (i : ℕ) → MayStep w i → Lent (w .nodes) (w .versions) (w .state .counts)
-lent-may-step w i f =
-    let l = f .start .lawful in
-    record { node = l .node; version = l .version; fewNodes = l .few-nodes; fewVersions = l .few-versions }
 
 abbrev pub stays : Store → Advance → Stepped
 stays w a = record {

@@ -1,3 +1,2 @@
 pub mod ChainTurns
 pub mod LevelTurns
-pub mod Granted

@@ -1,2 +1,1 @@
 pub mod LookTurns
-pub mod Granted

@@ -16,11 +16,12 @@ use Rattle.model.specs.declared.types.Refusal.the-variants.{Corrupt, NoProcess,
 use Rattle.model.specs.declared.types.State.{State}
 use Rattle.model.specs.Layout.{limits, nodeWords, versionWords, capacity}
 use Rattle.model.specs.State.{processAt, lawfulKey, lawfulNodes, lawfulVersions, lawfulLength, lawfulState, lawfulStore}
-use Rattle.model.specs.Calls.{denyIf, noSuch, spent, openDue, openPermit, startPermit, Store, stepPermit, statusPermit}
-use Rattle.model.specs.Inspection.{idleBelow}
+use Rattle.model.specs.Calls.{denyIf, noSuch, spent, openDue, openPermit, startPermit, Store, stepPermit, lookPermit, statusPermit}
+use Rattle.model.specs.Inspection.{idleBelow, inspectPermit}
 use Rattle.model.specs.Roles.{isIdle}
 use Rattle.model.proofs.Laws.{granted-iff}
 use Rattle.model.proofs.Tests.{leb-iff, eqb-iff}
+use Rattle.tables.specs.Room.{Lent}
 use Rattle.refusals.specs.Order.{orElse}
 
 -- a refusal and whether its condition is met
@@ -70,10 +71,7 @@ lawful-processes s h = let f = simp (and-eq-true-iff, leb-iff) at h in omega ari
 pub record Lawful (s : State) (nodes versions : List ℕ) : Type 0 where
   pub processes : s .processes ≤ limits .processes
   pub limit : s .limit ≤ limits .events
-  pub node : nodeWords * s .counts .nodes + nodeWords ≤ length nodes
-  pub version : versionWords * s .counts .versions + versionWords ≤ length versions
-  pub few-nodes : length nodes ≤ nodeWords * suc (limits .nodes)
-  pub few-versions : length versions ≤ versionWords * suc (limits .versions)
+  pub lent : Lent nodes versions (s .counts)
 
 pub lawful-store : (s : State) (nodes versions : List ℕ) → lawfulStore s nodes versions ≡ true
     → Lawful s nodes versions
@@ -83,10 +81,7 @@ lawful-store s nodes versions h =
     record {
       processes = omega arith;
       limit = omega arith;
-      node = omega arith;
-      version = omega arith;
-      few-nodes = omega arith;
-      few-versions = omega arith;
+      lent = record { node = omega arith; version = omega arith; fewNodes = omega arith; fewVersions = omega arith };
     }
 
 -- ---- granted
@@ -122,6 +117,15 @@ may-start s nodes versions i k e g =
       process = leb-false _ _ (f .1 .0);
       event = leb-false _ _ (f .1 .1 .1 .1 .0);
     }
+
+-- what a look and an inspection that are let pass may go by
+pub may-look : (s : State) (nodes versions : List ℕ) (k : ℕ) → lookPermit s nodes versions k ≡ Granted → Lawful s nodes versions
+unfolding lookPermit
+may-look s nodes versions k g = lawful-store s nodes versions (not-false _ ((simp granted-iff at g) .0))
+
+pub may-inspect : (s : State) (nodes versions : List ℕ) → inspectPermit s nodes versions ≡ Granted → Lawful s nodes versions
+unfolding inspectPermit
+may-inspect s nodes versions g = lawful-store s nodes versions (not-false _ ((simp granted-iff at g) .0))
 
 -- what a step may go by once refusals 10, 5, 8 and 9 are not given
 pub record MayStep (w : Store) (i : ℕ) : Type 0 where

@@ -2,7 +2,7 @@
 use mathlib.Core.Path.{sym, _∙_}
 use borrow.Author.Needs.{needs}
 use Rattle.model.specs.Inspection.{inspectBy, inspectOf}
-use Rattle.inspection.proofs.Granted.{inspect-lent}
+use Rattle.refusals.proofs.Laws.{may-inspect}
 use Rattle.inspection.proofs.inspect.inspect.Statement.{statement}
 use Rattle.inspection.proofs.inspect.inspect.Tie as tie
 
@@ -15,8 +15,8 @@ enum-told c = search needs
 inspect-levels-requires : tie.Need-inspect-levels-requires
 inspect-levels-requires c κs =
     let a = c .before .before .before .before .before .before .args in
-    inspect-lent (a .s) (a .nodes .now) (a .versions .now)
-    (sym (c .before .before .before .inspect-permit .ensures) ∙ c .before .enum-told .given .1)
+    may-inspect (a .s) (a .nodes .now) (a .versions .now)
+    (sym (c .before .before .before .inspect-permit .ensures) ∙ c .before .enum-told .given .1) .lent
 
 enum-known-permit : tie.Need-enum-known-permit
 enum-known-permit c = search needs

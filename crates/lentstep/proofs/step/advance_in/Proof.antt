@@ -10,7 +10,6 @@ use Rattle.model.specs.Calls.{storeOf}
 use Rattle.tables.specs.Room.{memory}
 use Rattle.transition.proofs.Laws.{level-fits}
 use Rattle.refusals.proofs.Laws.{MayStep, may-step}
-use Rattle.calls.proofs.Laws.{lent-may-step}
 use Rattle.process.specs.ProcessWords.{sizes, processFrom}
 use Rattle.layout.specs.StateWords.{stateFrom, isStateAt, startOf}
 use Rattle.layout.proofs.Known.{part-is, part-long}
@@ -74,7 +73,7 @@ transition-requires c κs =
     let s = c .before .before .before .before .before .before .before .before .before .before .before in
     let l = long s in (
       part-long (s .args .words .now) (startOf (s .args .process)) (omega (arith, few s)),
-      simp (c .before .before .before .before .counts-in .ensures) (lent-may-step _ _ (may s)),
+      simp (c .before .before .before .before .counts-in .ensures) (may s .start .lawful .lent),
     )
 
 leave-requires : tie.Need-leave-requires

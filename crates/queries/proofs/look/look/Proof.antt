@@ -3,7 +3,7 @@ use mathlib.Core.Path.{sym, _∙_}
 use native.Mathlib.Omega.{arith}
 use borrow.Author.Needs.{needs}
 use Rattle.model.specs.Calls.{lookBy, lookOf}
-use Rattle.queries.proofs.Granted.{look-lent}
+use Rattle.refusals.proofs.Laws.{may-look}
 use Rattle.queries.proofs.LookTurns.{find-within}
 use Rattle.queries.proofs.look.look.Statement.{statement}
 use Rattle.queries.proofs.look.look.Tie as tie
@@ -24,17 +24,17 @@ find-requires : tie.Need-find-requires
 find-requires c κs =
     let a = c .before .before .before .before .before .before .before .before .args in
     let p = c .before .before .before .look-permit .ensures (a .s) (sym (c .before .before .before .before .before .header-of .ensures)) in
-    let l = look-lent (a .s) (a .nodes .now) (a .versions .now) (a .key) (sym p ∙ c .before .enum-told .given .1) in
-    l .node
+    let l = may-look (a .s) (a .nodes .now) (a .versions .now) (a .key) (sym p ∙ c .before .enum-told .given .1) in
+    l .lent .node
 
 look-node-requires : tie.Need-look-node-requires
 look-node-requires c κs =
     let a = c .before .before .before .before .before .before .before .before .before .args in
     let q = c .before .before .before .before in
     let p = q .look-permit .ensures (a .s) (sym (q .before .before .header-of .ensures)) in
-    let l = look-lent (a .s) (a .nodes .now) (a .versions .now) (a .key) (sym p ∙ c .before .before .enum-told .given .1) in
+    let l = may-look (a .s) (a .nodes .now) (a .versions .now) (a .key) (sym p ∙ c .before .before .enum-told .given .1) in
     let w = find-within (a .nodes .now) (a .key) (a .s .counts .nodes) 1 (omega arith) in
-    (l, omega (arith, c .find .ensures))
+    (l .lent, omega (arith, c .find .ensures, l .lent .node))
 
 enum-known-permit : tie.Need-enum-known-permit
 enum-known-permit c = search needs

@@ -6,7 +6,6 @@ use Rattle.model.specs.Calls.{stepPermit, storeOf}
 use Rattle.refusals.proofs.Laws.{may-step}
 use Rattle.storestep.specs.Attempt.{advanced}
 use Rattle.storestep.proofs.Laws.{attempt-stays, attempt-passed, attempt-moves}
-use Rattle.calls.proofs.Laws.{lent-may-step}
 use borrow.Author.Needs.{needs}
 use Rattle.calls.proofs.Places.{slot-below, slot-own}
 use Rattle.storestep.proofs.step.step.Statement.{statement}
@@ -46,7 +45,7 @@ attempt-requires c κs g =
     let f = may-step _ _ (permit-is (c .before .before .before .before)) g in
     let l = f .start .lawful in
     record {
-      lent = lent-may-step _ _ f;
+      lent = l .lent;
       answers = f .tally;
       few = omega (arith, f .start .process, l .processes);
       left = omega (arith, f .start .event, l .limit);
