@@ -1,10 +1,8 @@
 -- Document 01, "Sheet program": commands one after another, from bytes that may not all be read yet, to a page that may fill up.
 use Prim.Native.Nat.{ℕ, zero, suc, _+_, _≤_}
-use mathlib.Core.Bool.{Bool}
 use mathlib.Core.List.{List}
 use lib.Dec.{leb}
 use lib.ListN.{length, drop}
-use Rattle.model.specs.declared.types.Refusal.the-variants.{UnknownCommand, CutShort}
 use Rattle.model.specs.Choice.{if_then_else_}
 use Rattle.decoder.specs.declared.types.Command.{Command}
 use Rattle.decoder.specs.declared.types.Decoded.{Decoded}
@@ -12,8 +10,6 @@ use Rattle.decoder.specs.declared.types.Decoded.the-variants.{Whole, Unknown, S
 use Rattle.decoder.specs.Commands.{commandFrom}
 use Rattle.printer.specs.Lines.{Page, printOf, room}
 use Rattle.interpreter.specs.declared.types.Played.{Played}
-use Rattle.interpreter.specs.declared.types.Rest.{Rest}
-use Rattle.interpreter.specs.declared.types.Rest.the-variants.{More, Over, Ends}
 use Rattle.buffers.specs.Session.{Session, session, Done}
 use Rattle.executor.specs.Perform.{performOf}
 
@@ -64,13 +60,3 @@ playFor (suc n) bytes p = playFor n bytes (playOne bytes p)
 -- all that can be played: a command has a byte at least
 unfoldable pub playOf : (bytes : List ℕ) → Playing → Playing
 playOf bytes p = playFor (length bytes) bytes p
-
--- "15 unknown byte; 16 command cut short. 15 and 16 end the run, and come before 14."
-unfoldable pub restBy : (ended : Bool) → Decoded → Rest
-restBy ended (Whole c n) = More
-restBy ended Unknown = Ends UnknownCommand
-restBy ended Short = if ended then Ends CutShort else More
-restBy ended End = if ended then Over else More
-
-unfoldable pub restOf : (bytes : List ℕ) → (read : ℕ) → (ended : Bool) → Rest
-restOf bytes read ended = restBy ended (commandFrom (drop read bytes))

@@ -1,19 +1,15 @@
-// Commands one after another, and what is left where no more can be played.
-ghost use Prim.Native.Nat.{_+_, _≤_};
+// Commands one after another.
+ghost use Prim.Native.Nat.{_≤_};
 ghost use mathlib.Core.Bool.{true, false};
 ghost use mathlib.Core.Path.{_≡_};
-ghost use lib.Dec.{leb};
 ghost use lib.ListN.{length};
-ghost use Rattle.printer.specs.Lines.{room};
-ghost use Rattle.interpreter.specs.Sheet.{playing, Within, played, playOne, playOf, restOf};
+ghost use Rattle.interpreter.specs.Sheet.{playing, Within, played, playOne, playOf};
 use crate::types::Played;
-use crate::types::Rest;
 use decoder::decode::decode;
 use decoder::types::Command;
 use decoder::types::Decoded;
 use executor::perform::perform;
-use model::types::Refusal;
-use printer::types::Line;
+use printer::print::has_room;
 
 // A run that stands where it stood.
 fn stay(p: Played) -> Played
@@ -26,19 +22,6 @@ fn stay(p: Played) -> Played
         next: p.next,
         more: false,
     }
-}
-
-// Whether a line has room from `next` on.
-fn has_room(out: &[u8], next: usize) -> bool
-    ensures { λ r. ⌜ r ≡ leb (next + room) (length (now (out .entry))) ⌝ }
-{
-    if out.len() < next {
-        return false;
-    }
-    if out.len() - next < Line::ROOM {
-        return false;
-    }
-    true
 }
 
 // A whole command: it is performed and its line printed, and the next one stands at `read`.
@@ -126,22 +109,4 @@ pub fn play(
         left -= 1;
     }
     stay(at)
-}
-
-pub fn rest(bytes: &[u8], read: usize, ended: bool) -> Rest
-    ensures { λ r. ⌜ r ≡ restOf (now (bytes .entry)) read ended ⌝ }
-{
-    let found = decode(bytes, read);
-    match found {
-        Decoded::Whole(_, _) => Rest::More,
-        Decoded::Unknown => Rest::Ends(Refusal::UnknownCommand),
-        Decoded::Short => {
-            if ended {
-                Rest::Ends(Refusal::CutShort)
-            } else {
-                Rest::More
-            }
-        }
-        Decoded::End => { if ended { Rest::Over } else { Rest::More } }
-    }
 }

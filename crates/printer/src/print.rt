@@ -1,7 +1,8 @@
 // The line that an answer prints. What it says is chosen by value and then written, so that no choice lends the buffer.
 ghost use mathlib.Core.Path.{_≡_};
 ghost use mathlib.Core.List.{[], _∷_};
-ghost use Prim.Native.Nat.{_≤_};
+ghost use Prim.Native.Nat.{_+_, _≤_};
+ghost use lib.Dec.{leb};
 ghost use lib.ListN.{length};
 ghost use Rattle.printer.specs.Lines.{lineOf, room, printOf};
 ghost use Rattle.printer.specs.Sentences.{sentence, longest, Opens, Closes, said};
@@ -111,6 +112,19 @@ fn sentence_of(line: Line) -> Sentence
     }
 }
 
+// Whether a line has room from `at` on.
+pub fn has_room(out: &[u8], at: usize) -> bool
+    ensures { λ r. ⌜ r ≡ leb (at + room) (length (now (out .entry))) ⌝ }
+{
+    if out.len() < at {
+        return false;
+    }
+    if out.len() - at < Line::ROOM {
+        return false;
+    }
+    true
+}
+
 impl Line {
     // Bytes that any line has room in.
     pub const ROOM: usize = 128;
@@ -121,10 +135,7 @@ impl Line {
         ensures { λ r. ⌜ record { bytes = now (out .exit); next = r } ≡ printOf (now (out .entry)) at self ⌝ }
         ensures { λ r. ⌜ (at ≤ length (now (out .entry)) → r ≤ length (now (out .entry))) ⌝ }
     {
-        if out.len() < at {
-            return at;
-        }
-        if out.len() - at < Self::ROOM {
+        if !has_room(out, at) {
             return at;
         }
         put_sentence(out, at, sentence_of(self))

@@ -7,9 +7,9 @@ use crate::pages::play_pages;
 use crate::pages::print_refusal;
 use crate::types::Piece;
 use crate::types::Run;
-use interpreter::play::rest;
+use ending::rest::rest;
+use ending::types::Rest;
 use interpreter::types::Played;
-use interpreter::types::Rest;
 use libc::STDIN_FILENO;
 use model::types::State;
 

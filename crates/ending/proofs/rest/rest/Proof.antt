@@ -1,8 +1,8 @@
 -- What is found decides.
-use Rattle.interpreter.specs.Sheet.{restOf, restBy}
+use Rattle.ending.specs.Rest.{restOf, restBy}
 use borrow.Author.Needs.{needs}
-use Rattle.interpreter.proofs.play.rest.Statement.{statement}
-use Rattle.interpreter.proofs.play.rest.Tie as tie
+use Rattle.ending.proofs.rest.rest.Statement.{statement}
+use Rattle.ending.proofs.rest.rest.Tie as tie
 
 decode-requires : tie.Need-decode-requires
 decode-requires c κs = search needs
