@@ -5,7 +5,7 @@ use mathlib.Core.Bool.{true}
 use mathlib.Core.Path.{_≡_, refl}
 use mathlib.Core.List.{List, [], _∷_, _++_}
 use lib.Count.{trailingZeros}
-use lib.ListN.{length, replicate}
+use lib.ListN.{length, replicate, set}
 use Rattle.model.specs.Types.{Opening, Starting, Stepping, Looking, Inspecting, Status, Process, Kind, Put, Get, Phase}
 use Rattle.model.specs.Types.{Answer, Added, New, Found, Refusal}
 use Rattle.model.specs.Layout as Layout
@@ -363,6 +363,17 @@ pred-remembered = refl
 top-capped : asked one [] (top-of 2) ≡ words (1 ∷ [])
 unfolding asked
 top-capped = refl
+
+-- "a link that make or link only copies is not tested": where the head's leads to no node in use, make goes on
+link-copied : said (record {
+      bench = one;
+      actions = put 9 7 5 100;
+      alter = λ w. record { state = w .state; nodes = set (w .nodes) 4 2; versions = w .versions; tally = w .tally };
+      question = call (step 0);
+      expected = words [];
+    }) ≡ on 11
+unfolding said
+link-copied = refl
 
 -- ---- inspections of altered memory
 

@@ -1,6 +1,4 @@
 pub mod Bench
-pub mod Starred
-pub mod Damage
 pub mod Seen
 pub mod Laws
 pub mod Tests

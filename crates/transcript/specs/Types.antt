@@ -1,4 +1,4 @@
--- The types of `model` and `command` that this crate names. Constructors that two types share are written through their type.
+-- The types of `model`, `decoder` and `printer` that this crate names. Constructors that two types share are written through their type.
 pub use Rattle.decoder.specs.declared.types.Command.{Command}
 pub use Rattle.decoder.specs.declared.types.Command.the-variants.{Open, Put, Get, Step, Look, Inspect}
 pub use Rattle.printer.specs.declared.types.Line.{Line}

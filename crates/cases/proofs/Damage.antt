@@ -5,14 +5,20 @@ use mathlib.Core.Bool.{Bool, true, false}
 use mathlib.Core.Path.{_≡_, refl}
 use mathlib.Core.List.{List, [], _∷_, _++_, map}
 use lib.ListN.{replicate, set}
-use Rattle.model.specs.Types.{Phase, Walk, Read, Seek, Lock, Check, Update, Make, Link, Release}
-use Rattle.model.specs.Types.{Answer, TooOld, VersionsFull, Added, KeysFull, New, Found, None}
-use Rattle.model.specs.Types.{Corrupt, Damaged, NoKey, NoVersion, Put, Get, Process, Inspecting, Status}
+use Rattle.model.specs.declared.types.Inspecting.{Inspecting}
+use Rattle.model.specs.declared.types.Status.{Status}
+use Rattle.model.specs.declared.types.Process.{Process}
+use Rattle.model.specs.declared.types.Phase.{Phase}
+use Rattle.model.specs.declared.types.Phase.the-variants.{Walk, Read, Seek, Lock, Check, Update, Make, Link, Release}
+use Rattle.model.specs.declared.types.Answer.{Answer}
+use Rattle.model.specs.declared.types.Answer.the-variants.{TooOld, VersionsFull, Added, KeysFull, New, Found, None}
+use Rattle.model.specs.declared.types.Kind.the-variants.{Put, Get}
+use Rattle.model.specs.declared.types.Refusal.the-variants.{Corrupt, Damaged, NoKey, NoVersion}
 use Rattle.model.specs.Layout.{nodeWords, versionWords, levels}
 use Rattle.model.specs.Calls.{Store}
 use Rattle.model.specs.History.{step, look}
 use Rattle.model.proofs.Bench.{startGet, Question, call, inspect, status, Said, inspected, stands, Case, said}
 use Rattle.model.proofs.Bench.{fit, put, on, done, shows, no-start, no-step, no-look}
 
 -- ---- alterations
 
