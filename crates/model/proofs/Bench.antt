@@ -366,12 +366,12 @@ top-capped = refl
 
 -- "a link that make or link only copies is not tested": where the head's leads to no node in use, make goes on
 link-copied : said (record {
-      bench = one;
-      actions = put 9 7 5 100;
-      alter = λ w. record { state = w .state; nodes = set (w .nodes) 4 2; versions = w .versions; tally = w .tally };
-      question = call (step 0);
-      expected = words [];
-    }) ≡ on 11
+  bench = one;
+  actions = put 9 7 5 100;
+  alter = λ w. record { state = w .state; nodes = set (w .nodes) 4 2; versions = w .versions; tally = w .tally };
+  question = call (step 0);
+  expected = words [];
+}) ≡ on 11
 unfolding said
 link-copied = refl
 

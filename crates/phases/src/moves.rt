@@ -1,8 +1,10 @@
-// The moves that carry a cursor, and the test for the one that refuses.
+// The moves that carry a cursor, the test for the one that refuses, and the step of a put that writes nothing.
 ghost use mathlib.Core.Path.{_≡_};
 ghost use Rattle.model.specs.Phases.{at, committed, refuses};
 ghost use Rattle.phases.specs.Types.{Go, Note};
+use crate::types::Transition;
 use model::types::Answer;
+use model::types::Counts;
 use model::types::Cursor;
 use model::types::Move;
 use model::types::Phase;
@@ -56,5 +58,15 @@ pub fn is_refusal(m: Move) -> bool
         Move::Note(_) => false,
         Move::Commit(_, _) => false,
         Move::End(_, _, _) => false,
+    }
+}
+
+// The put takes effect with an answer that changes no table.
+pub fn keep(c: Cursor, answer: Answer, counts: Counts) -> Transition
+    ensures { λ r. ⌜ r ≡ (record { mv = committed c (c .made) answer; counts = counts }) ⌝ }
+{
+    Transition {
+        mv: commit(c, c.made, answer),
+        counts,
     }
 }

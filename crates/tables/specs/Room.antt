@@ -18,6 +18,15 @@ pub record LevelRoom (nodes : List ℕ) (l x : ℕ) : Type 0 where
 abbrev pub VersionRoom : (versions : List ℕ) → ℕ → Type 0
 VersionRoom versions i = versionWords * i + versionWords ≤ length versions
 
+-- there is room for one node, or one version, after those in use
+pub record NodeSpare (nodes : List ℕ) (used : ℕ) : Type 0 where
+  pub room : NodeRoom nodes (used + 1)
+  pub few : length nodes ≤ nodeWords * suc (limits .nodes)
+
+pub record VersionSpare (versions : List ℕ) (used : ℕ) : Type 0 where
+  pub room : VersionRoom versions (used + 1)
+  pub few : length versions ≤ versionWords * suc (limits .versions)
+
 -- both tables have the nodes and versions in use, and lawful lengths
 pub record Lent (nodes versions : List ℕ) (counts : Counts) : Type 0 where
   pub node : NodeRoom nodes (counts .nodes)

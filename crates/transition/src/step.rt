@@ -6,6 +6,8 @@ ghost use Rattle.tables.specs.Room.{Lent, memory};
 ghost use Rattle.phases.specs.Ready.{Ready, leaves};
 ghost use Rattle.process.specs.ProcessWords.{sizes, processFrom};
 use crate::lawful::lawful;
+use inserting::insert::link;
+use inserting::insert::make;
 use locking::lock::acquire;
 use locking::lock::check;
 use locking::lock::release;
@@ -20,9 +22,7 @@ use process::words::call_in;
 use process::words::cursor_in;
 use process::words::effect_in;
 use process::words::preds_in;
-use writes::put::link;
-use writes::put::make;
-use writes::put::update;
+use updating::update::update;
 
 // A move that leaves the counts in use.
 fn with(mv: Move, counts: Counts) -> Transition

@@ -1,2 +1,0 @@
-// The phases in which a put writes versions, nodes and links.
-pub mod put;
