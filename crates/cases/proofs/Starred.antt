@@ -14,7 +14,7 @@ use Rattle.model.specs.declared.types.Refusal.the-variants.{NodeLength, Version
 use Rattle.model.specs.State.{idleProcess}
 use Rattle.model.specs.History.{step, look}
 use Rattle.model.proofs.Bench.{startPut, startGet, Case, call, status, inspect, tally, tables, word-of, process, observer, ledger}
-use Rattle.model.proofs.Bench.{started, stands, inspected, words, keeps, lists, start, said, lent, fit}
+use Rattle.model.proofs.Bench.{started, stands, inspected, words, keeps, lists, said, lent, fit}
 use Rattle.model.proofs.Bench.{with-tally, case, alike-in-half, steps, put, get, times, side-by-side, done, on, wait, shows}
 use Rattle.model.proofs.Bench.{no-start, no-step, no-look, one, two, draw-gives, draw-makes, opens, thrice}
 use Rattle.model.proofs.Bench.{tall, stairs, climbing, overtaken, kept, both, entry, mixed}

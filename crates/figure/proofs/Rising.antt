@@ -6,7 +6,7 @@ use mathlib.Core.Logic.{_≢_}
 use mathlib.Core.Path.{_≡_, refl, sym, _∙_}
 use native.Mathlib.Omega.{arith}
 use lib.ListN.{length, getD}
-use Rattle.model.specs.Layout.{Memory, nodeWords, word, withWord, key, next, lock, withNode, nodeRecord, levels, topLevel}
+use Rattle.model.specs.Layout.{Memory, nodeWords, word, withWord, key, next, lock, withNode, nodeRecord, topLevel}
 use Rattle.model.specs.Phases.{maxNodes, addNode, addLink}
 use Rattle.model.proofs.Tests.{by-eq}
 use Rattle.model.proofs.Words.{same-key, written-key, length-word, word-same, word-field, word-node, length-node, node-in, node-out, node-locks}
