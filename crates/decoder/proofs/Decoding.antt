@@ -1,18 +1,52 @@
 -- What the byte at a position decides of the command there.
 use Prim.Native.Nat.{ℕ, _+_, _-_, _<_, _≤_}
-use mathlib.Core.Path.{_≡_, ap, sym, _∙_}
+use mathlib.Core.Path.{_≡_, refl, ap, sym, _∙_}
 use mathlib.Core.List.{List}
 use native.Mathlib.Numerals.{add-one}
 use native.Mathlib.Omega.{arith}
-use lib.ListN.{length, drop, getD, length-drop, drop-of-length-le}
+use lib.ListN.{length, take, drop, getD, length-drop, drop-of-length-le}
 use lib.Seq.{drop-cons, drop-drop}
 use borrow.Author.Tests.{lt-ltb, le-ltb}
-use Rattle.decoder.specs.Types.{Command, Whole, Short, End}
-use Rattle.decoder.specs.Commands.{Form, opcodes, total, commandWith, formFrom, codeFrom, commandFrom}
+use Rattle.decoder.specs.Types.{Command, Open, Put, Get, Look, Whole, Short, End}
+use Rattle.decoder.specs.Commands.{bigEndian, Form, openForm, putForm, getForm, lookForm, opcodes, total, commandWith, formFrom, codeFrom, commandFrom}
 
 -- the operand after the one of m bytes at n
-pub skip : (l : List ℕ) (n m p : ℕ) → n + m ≡ p → drop m (drop n l) ≡ drop p l
+skip : (l : List ℕ) (n m p : ℕ) → n + m ≡ p → drop m (drop n l) ≡ drop p l
 skip l n m p e = drop-drop m n l ∙ ap (λ k. drop k l) e
+
+-- Operands that stand one behind another are those of the command.
+module _ (l : List ℕ) (at : ℕ) where
+  -- the number of so many bytes at a position
+  abbrev word : (position bytes : ℕ) → ℕ
+  word position bytes = bigEndian (take bytes (drop position l))
+
+  pub open-is : (keys versions processes limit : ℕ) → keys ≡ word at 2 → versions ≡ word (at + 2) 2 → processes ≡ word (at + 4) 1 → limit ≡ word (at + 5) 4
+      → Open keys versions processes limit ≡ commandWith openForm (drop at l)
+  open-is keys versions processes limit first second third fourth =
+      rw (first, second, third, fourth, skip l at 2 (at + 2) refl, skip l (at + 2) 2 (at + 4) (omega arith), skip l (at + 4) 1 (at + 5) (omega arith))
+
+  module _ (width : ℕ) where
+    pub put-is : (process key value timestamp draw : ℕ) (next : ℕ) → next ≡ at + 1 + width
+        → process ≡ word at 1 → key ≡ word (at + 1) width → value ≡ word next 4 → timestamp ≡ word (next + 4) 4 → draw ≡ word (next + 8) 2
+        → Put process key value timestamp draw ≡ commandWith (putForm width) (drop at l)
+    put-is process key value timestamp draw next is first second third fourth fifth =
+        rw (
+          first,
+          second,
+          third,
+          fourth,
+          fifth,
+          skip l at 1 (at + 1) refl,
+          skip l (at + 1) width next (sym is),
+          skip l next 4 (next + 4) refl,
+          skip l (next + 4) 4 (next + 8) (omega arith),
+        )
+
+    pub get-is : (process key : ℕ) → process ≡ word at 1 → key ≡ word (at + 1) width → Get process key ≡ commandWith (getForm width) (drop at l)
+    get-is process key first second = rw (first, second, skip l at 1 (at + 1) refl)
+
+    pub look-is : (key back : ℕ) → key ≡ word at width → back ≡ word (at + width) 2 → Look key back ≡ commandWith (lookForm width) (drop at l)
+    look-is key back first second = rw (first, second, skip l at width (at + width) refl)
 
 pub no-byte : (bytes : List ℕ) (at : ℕ) → length bytes ≤ at → End ≡ commandFrom (drop at bytes)
 unfolding commandFrom

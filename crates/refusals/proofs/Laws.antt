@@ -188,7 +188,7 @@ module _
         after-ten-and-five (lawfulStore s nodes versions) (s .processes) i _ _
         (λ l j. let f = lawful-store s nodes versions l in simp (found (omega arith)))
 
-    pub step-kind : (tally : List ℕ)
+    step-kind : (tally : List ℕ)
         → stepPermit (record { state = s; nodes = nodes; versions = versions; tally = tally }) i
         ≡ denyIf (not (lawfulStore s nodes versions && eqb (length tally) (limits .answers))) Corrupt
         (denyIf (noSuch s i) NoProcess
@@ -200,3 +200,10 @@ module _
         let t = lawfulStore s nodes versions && eqb (length tally) (limits .answers) in
         after-ten-and-five t (s .processes) i _ _
         (λ l j. let f = lawful-store s nodes versions ((simp and-eq-true-iff at l) .0) in simp (found (omega arith)))
+
+    -- a step's permit by what each test told
+    pub step-by : (tally : List ℕ) (l t p k e : Bool) → lawfulStore s nodes versions ≡ l → eqb (length tally) (limits .answers) ≡ t
+        → noSuch s i ≡ p → isIdle kind ≡ k → spent s ≡ e
+        → denyIf (not (l && t)) Corrupt (denyIf p NoProcess (denyIf k NoCall (denyIf e Spent Granted)))
+        ≡ stepPermit (record { state = s; nodes = nodes; versions = versions; tally = tally }) i
+    step-by tally l t p k e lawful words none idle late = rw (step-kind tally, lawful, words, none, idle, late)

@@ -1,7 +1,5 @@
 -- Each operand stands behind the one before.
-use Prim.Native.Nat.{_+_}
-use native.Mathlib.Omega.{arith}
-use Rattle.decoder.proofs.Decoding.{skip}
+use Rattle.decoder.proofs.Decoding.{get-is}
 use borrow.Author.Needs.{needs}
 use Rattle.decoder.proofs.decode.get_at.Statement.{statement}
 use Rattle.decoder.proofs.decode.get_at.Tie as tie
@@ -18,8 +16,7 @@ key-at-requires c κs = search needs
 returns : tie.Need-returns
 returns c =
     let a = c .before .before .before .args in
-    let l = a .bytes .now in
-    cc (skip l (a .at) 1 (a .at + 1) (omega arith))
+    get-is (a .bytes .now) (a .at) (a .width) (c .before .number .result) (c .key-at .result) (c .before .number .ensures .0) (c .key-at .ensures)
 
 pub get-at-spec : {M : Type 1} → statement M
 get-at-spec = tie.close (tie.spec number-requires add-key-at key-at-requires returns)

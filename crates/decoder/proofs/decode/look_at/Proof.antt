@@ -1,7 +1,5 @@
 -- Each operand stands behind the one before.
-use Prim.Native.Nat.{_+_}
-use native.Mathlib.Omega.{arith}
-use Rattle.decoder.proofs.Decoding.{skip}
+use Rattle.decoder.proofs.Decoding.{look-is}
 use borrow.Author.Needs.{needs}
 use Rattle.decoder.proofs.decode.look_at.Statement.{statement}
 use Rattle.decoder.proofs.decode.look_at.Tie as tie
@@ -18,8 +16,7 @@ number-requires c κs = search needs
 returns : tie.Need-returns
 returns c =
     let a = c .before .before .before .args in
-    let l = a .bytes .now in
-    cc (skip l (a .at) (a .width) (a .at + a .width) (omega arith))
+    look-is (a .bytes .now) (a .at) (a .width) (c .before .key-at .result) (c .number .result) (c .before .key-at .ensures) (c .number .ensures .0)
 
 pub look-at-spec : {M : Type 1} → statement M
 look-at-spec = tie.close (tie.spec key-at-requires add-number number-requires returns)

@@ -1,7 +1,5 @@
 -- Each operand stands behind the one before.
-use Prim.Native.Nat.{_+_}
-use native.Mathlib.Omega.{arith}
-use Rattle.decoder.proofs.Decoding.{skip}
+use Rattle.decoder.proofs.Decoding.{open-is}
 use borrow.Author.Needs.{needs}
 use Rattle.decoder.proofs.decode.open_at.Statement.{statement}
 use Rattle.decoder.proofs.decode.open_at.Tie as tie
@@ -30,8 +28,9 @@ number-requires-4 c κs = search needs
 returns : tie.Need-returns
 returns c =
     let a = c .before .before .before .before .before .args in
-    let l = a .bytes .now in
-    cc (skip l (a .at) 2 (a .at + 2) (omega arith), skip l (a .at + 2) 2 (a .at + 4) (omega arith), skip l (a .at + 4) 1 (a .at + 5) (omega arith))
+    open-is (a .bytes .now) (a .at) (c .before .before .before .number .result) (c .before .before .number2 .result) (c .before .number3 .result)
+    (c .number4 .result) (c .before .before .before .number .ensures .0) (c .before .before .number2 .ensures .0) (c .before .number3 .ensures .0)
+    (c .number4 .ensures .0)
 
 pub open-at-spec : {M : Type 1} → statement M
 open-at-spec =

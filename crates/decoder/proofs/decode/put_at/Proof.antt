@@ -1,7 +1,7 @@
 -- Each operand stands behind the one before.
 use Prim.Native.Nat.{_+_}
-use native.Mathlib.Omega.{arith}
-use Rattle.decoder.proofs.Decoding.{skip}
+use mathlib.Core.Path.{refl}
+use Rattle.decoder.proofs.Decoding.{put-is}
 use borrow.Author.Needs.{needs}
 use Rattle.decoder.proofs.decode.put_at.Statement.{statement}
 use Rattle.decoder.proofs.decode.put_at.Tie as tie
@@ -39,14 +39,10 @@ cast-draw c = search needs
 returns : tie.Need-returns
 returns c =
     let a = c .before .before .before .before .before .before .args in
-    let l = a .bytes .now in
-    let next = a .at + 1 + a .width in
-    cc (
-      skip l (a .at) 1 (a .at + 1) (omega arith),
-      skip l (a .at + 1) (a .width) next (omega arith),
-      skip l next 4 (next + 4) (omega arith),
-      skip l (next + 4) 4 (next + 8) (omega arith),
-    )
+    put-is (a .bytes .now) (a .at) (a .width) (c .before .before .before .before .number .result) (c .before .before .before .key-at .result)
+    (c .before .before .number2 .result) (c .before .number3 .result) (c .number4 .result) (a .at + 1 + a .width) refl
+    (c .before .before .before .before .number .ensures .0) (c .before .before .before .key-at .ensures) (c .before .before .number2 .ensures .0)
+    (c .before .number3 .ensures .0) (c .number4 .ensures .0)
 
 pub put-at-spec : {M : Type 1} → statement M
 put-at-spec =
