@@ -12,7 +12,7 @@ use Rattle.model.specs.Inspection.{inspectOf}
 use Rattle.decoder.specs.declared.types.Command.{Command}
 use Rattle.decoder.specs.declared.types.Command.the-variants.{Open, Put, Get, Step, Look, Inspect}
 use Rattle.printer.specs.declared.types.Line.{Line}
-use Rattle.printer.specs.Answers.{openLine, startLine, stepLine, lookLine, inspectLine}
+use Rattle.lines.specs.Outcomes.{openLine, startLine, stepLine, lookLine, inspectLine}
 use Rattle.buffers.specs.declared.types.Buffers.{Buffers}
 use Rattle.buffers.specs.declared.types.Performed.{Performed}
 

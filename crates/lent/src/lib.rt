@@ -1,4 +1,3 @@
-// Opening, starts and queries of the store on a state in words that a caller lends; a step has a crate of its own.
+// Opening and queries of the store on a state in words that a caller lends; its starts and its step have crates of their own.
 pub mod open;
 pub mod query;
-pub mod start;

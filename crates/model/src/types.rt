@@ -3,7 +3,7 @@ ghost use mathlib.Core.Path.{_≡_};
 ghost use Rattle.model.specs.Layout.{limits, nodeOffsets, versionOffsets};
 ghost use Rattle.model.specs.State.{idleProcess, freshState, closedState};
 
-// The width of a key is said here; that it takes two words, in halves.rt.
+// The width of a key is said here; that it takes two words, in values/src/halves.rt.
 pub type Key = u64;
 
 // What a process was asked for; `Idle` where it has no call.

@@ -2,4 +2,3 @@ pub mod Types
 pub mod Text
 pub mod Lines
 pub mod Sentences
-pub mod Answers

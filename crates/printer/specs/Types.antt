@@ -7,8 +7,3 @@ pub use Rattle.model.specs.declared.types.Answer.{Answer}
 pub use Rattle.model.specs.declared.types.Answer.the-variants.{TooOld, VersionsFull, Added, KeysFull, New, Found, None}
 pub use Rattle.model.specs.declared.types.Refusal.{Refusal}
 pub use Rattle.model.specs.declared.types.Finish.{Finish}
-pub use Rattle.model.specs.declared.types.Opening.{Opening}
-pub use Rattle.model.specs.declared.types.Starting.{Starting}
-pub use Rattle.model.specs.declared.types.Stepping.{Stepping}
-pub use Rattle.model.specs.declared.types.Looking.{Looking}
-pub use Rattle.model.specs.declared.types.Inspecting.{Inspecting}

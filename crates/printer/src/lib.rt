@@ -1,5 +1,4 @@
-// One line of a sheet's output: which one an outcome prints, and its bytes in a lent buffer.
-pub mod answer;
+// One line of a sheet's output: its bytes in a lent buffer.
 mod formats;
 pub mod print;
 mod text;

@@ -3,7 +3,7 @@ use Prim.Native.Nat.{ℕ}
 use mathlib.Core.Bool.{_||_}
 use mathlib.Core.Path.{_≡_, refl}
 use Rattle.model.proofs.Tests.{if-by}
-use Rattle.printer.specs.Answers.{openLine, startLine, stepLine, lookLine, inspectLine}
+use Rattle.lines.specs.Outcomes.{openLine, startLine, stepLine, lookLine, inspectLine}
 use Rattle.buffers.specs.Session.{Session, Done, openOn, callOn}
 use Rattle.executor.specs.Perform.{opens, performOf}
 use Rattle.transcript.specs.Types.{Command, Open, Put, Get, Step, Look, Inspect, Line, NotOpen}

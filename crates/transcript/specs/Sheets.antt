@@ -9,7 +9,7 @@ use Rattle.model.specs.Calls.{openDue}
 use Rattle.model.specs.System.{viewOf}
 use Rattle.model.specs.History.{Action, start, step, look, Observation, started, stepped, looked, Run, performAll, emptyHistory}
 use Rattle.model.specs.Linearizability.{All, Claim, EffectsStay, OpensAs}
-use Rattle.printer.specs.Answers.{openLine, startLine, stepLine, lookLine, inspectLine}
+use Rattle.lines.specs.Outcomes.{openLine, startLine, stepLine, lookLine, inspectLine}
 use Rattle.buffers.specs.Session.{Session}
 use Rattle.executor.specs.Perform.{opens, performOf}
 use Rattle.transcript.specs.Types.{Command, Open, Put, Get, Step, Look, Inspect, Line, Refusal, NotOpen}

@@ -1,0 +1,2 @@
+// The line of a sheet's output that the outcome of each call prints.
+pub mod outcome;
