@@ -1,5 +1,7 @@
 -- The lesser of both lends all that there is.
-use Prim.Native.Nat.{_+_, _≤_}
+use Prim.Native.Nat.{_+_, _*_, _≤_, min}
+use mathlib.Core.Path.{ap, _∙_}
+use lib.ListN.{length}
 use native.Mathlib.Omega.{arith}
 use native.Mathlib.Nat.{mul-le-mul}
 use Rattle.buffers.proofs.Buffers.{lends}
@@ -21,7 +23,9 @@ least-requires : tie.Need-least-requires
 least-requires c κs = search needs
 
 returns : tie.Need-returns
-returns c = lends _ _ _ (c .least .ensures)
+returns c =
+    let a = c .before .before .args in
+    lends _ _ _ (c .least .ensures ∙ ap (λ n. min (a .words * n) (length (a .buffer .now))) (omega arith))
 
 pub asked-spec : {M : Type 1} → statement M
 asked-spec = tie.close (tie.spec add-all mul-all least-requires returns)
