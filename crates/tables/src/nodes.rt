@@ -7,6 +7,7 @@ ghost use lib.ListN.{length};
 ghost use Rattle.model.specs.Layout.{nodeWords, capacity, word, withWord, key, newest, top, next, lock, withNewest, withNext, withLock, nodeRecord, withNode};
 ghost use Rattle.model.specs.Phases.{ahead};
 ghost use Rattle.tables.specs.Room.{NodeRoom, LevelRoom, nodesIn};
+use crate::fresh::clear;
 use model::types::Ahead;
 use model::types::Key;
 use model::types::NodeOffsets;
@@ -95,29 +96,19 @@ pub fn set_lock(nodes: &mut [u32], level: u32, node: u32, holder: u32)
     set_word(nodes, node, NodeOffsets::LOCKS + level as usize, holder);
 }
 
-// The words of one node, each once.
+// The words of one node. What is not named stays zero: the links above level 0, and every lock.
 fn fill_node(part: &mut [u32], key: Key, version: u32, top: u32, next: u32)
     requires { ⌜ length (now part) ≡ nodeWords ⌝ }
     ensures { λ r. ⌜ now (part .exit) ≡ nodeRecord key version top next ⌝ }
 {
     let low = low_half(key);
     let high = high_half(key);
+    clear(part);
     part[NodeOffsets::KEY_LOW] = low;
     part[NodeOffsets::NEWEST] = version;
     part[NodeOffsets::TOP] = top;
     part[NodeOffsets::KEY_HIGH] = high;
     part[NodeOffsets::LINKS] = next;
-    part[NodeOffsets::LINKS + 1] = 0;
-    part[NodeOffsets::LINKS + 2] = 0;
-    part[NodeOffsets::LINKS + 3] = 0;
-    part[NodeOffsets::LINKS + 4] = 0;
-    part[NodeOffsets::LINKS + 5] = 0;
-    part[NodeOffsets::LOCKS] = 0;
-    part[NodeOffsets::LOCKS + 1] = 0;
-    part[NodeOffsets::LOCKS + 2] = 0;
-    part[NodeOffsets::LOCKS + 3] = 0;
-    part[NodeOffsets::LOCKS + 4] = 0;
-    part[NodeOffsets::LOCKS + 5] = 0;
 }
 
 // A new node: its part of the table is lent to the writer of one node.
