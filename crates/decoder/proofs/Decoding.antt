@@ -17,17 +17,18 @@ skip l n m p e = drop-drop m n l ∙ ap (λ k. drop k l) e
 -- Operands that stand one behind another are those of the command.
 module _ (l : List ℕ) (at : ℕ) where
   -- the number of so many bytes at a position
-  abbrev word : (position bytes : ℕ) → ℕ
-  word position bytes = bigEndian (take bytes (drop position l))
+  abbrev number : (position bytes : ℕ) → ℕ
+  number position bytes = bigEndian (take bytes (drop position l))
 
-  pub open-is : (keys versions processes limit : ℕ) → keys ≡ word at 2 → versions ≡ word (at + 2) 2 → processes ≡ word (at + 4) 1 → limit ≡ word (at + 5) 4
+  pub open-is : (keys versions processes limit : ℕ)
+      → keys ≡ number at 2 → versions ≡ number (at + 2) 2 → processes ≡ number (at + 4) 1 → limit ≡ number (at + 5) 4
       → Open keys versions processes limit ≡ commandWith openForm (drop at l)
   open-is keys versions processes limit first second third fourth =
       rw (first, second, third, fourth, skip l at 2 (at + 2) refl, skip l (at + 2) 2 (at + 4) (omega arith), skip l (at + 4) 1 (at + 5) (omega arith))
 
   module _ (width : ℕ) where
     pub put-is : (process key value timestamp draw : ℕ) (next : ℕ) → next ≡ at + 1 + width
-        → process ≡ word at 1 → key ≡ word (at + 1) width → value ≡ word next 4 → timestamp ≡ word (next + 4) 4 → draw ≡ word (next + 8) 2
+        → process ≡ number at 1 → key ≡ number (at + 1) width → value ≡ number next 4 → timestamp ≡ number (next + 4) 4 → draw ≡ number (next + 8) 2
         → Put process key value timestamp draw ≡ commandWith (putForm width) (drop at l)
     put-is process key value timestamp draw next is first second third fourth fifth =
         rw (
@@ -42,10 +43,10 @@ module _ (l : List ℕ) (at : ℕ) where
           skip l (next + 4) 4 (next + 8) (omega arith),
         )
 
-    pub get-is : (process key : ℕ) → process ≡ word at 1 → key ≡ word (at + 1) width → Get process key ≡ commandWith (getForm width) (drop at l)
+    pub get-is : (process key : ℕ) → process ≡ number at 1 → key ≡ number (at + 1) width → Get process key ≡ commandWith (getForm width) (drop at l)
     get-is process key first second = rw (first, second, skip l at 1 (at + 1) refl)
 
-    pub look-is : (key back : ℕ) → key ≡ word at width → back ≡ word (at + width) 2 → Look key back ≡ commandWith (lookForm width) (drop at l)
+    pub look-is : (key back : ℕ) → key ≡ number at width → back ≡ number (at + width) 2 → Look key back ≡ commandWith (lookForm width) (drop at l)
     look-is key back first second = rw (first, second, skip l at width (at + width) refl)
 
 pub no-byte : (bytes : List ℕ) (at : ℕ) → length bytes ≤ at → End ≡ commandFrom (drop at bytes)

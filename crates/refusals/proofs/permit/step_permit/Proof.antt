@@ -67,7 +67,8 @@ returns-4 c =
     let a = c .before .before .before .before .before .before .before .before .before .before .before .args in
     step-by s (a .nodes .now) (a .versions .now) (a .process) (a .kind) (e .found) (a .tally .now)
     true true false true (spent s)
-    (sym (c .before .before .before .before .before .before .lawful-store .ensures s (e .same)) ∙ not-false _ (c .before .before .before .before .before .if1 .left))
+    (sym (c .before .before .before .before .before .before .lawful-store .ensures s (e .same))
+    ∙ not-false _ (c .before .before .before .before .before .if1 .left))
     (eq-eqb _ _ (c .before .before .before .before .if2 .left))
     (ap (λ h. leb (getD h (headerOffsets .processes) 0) (a .process)) (e .same) ∙ lt-leb _ _ (c .before .before .if3 .left))
     (sym (c .before .is-idle .ensures) ∙ c .if4 .taken)
@@ -85,7 +86,8 @@ returns-5 c =
     let a = c .before .before .before .before .before .before .before .before .before .before .before .before .before .before .args in
     step-by s (a .nodes .now) (a .versions .now) (a .process) (a .kind) (e .found) (a .tally .now)
     true true false false true
-    (sym (c .before .before .before .before .before .before .before .before .before .lawful-store .ensures s (e .same)) ∙ not-false _ (c .before .before .before .before .before .before .before .before .if1 .left))
+    (sym (c .before .before .before .before .before .before .before .before .before .lawful-store .ensures s (e .same))
+    ∙ not-false _ (c .before .before .before .before .before .before .before .before .if1 .left))
     (eq-eqb _ _ (c .before .before .before .before .before .before .before .if2 .left))
     (ap (λ h. leb (getD h (headerOffsets .processes) 0) (a .process)) (e .same) ∙ lt-leb _ _ (c .before .before .before .before .before .if3 .left))
     (sym (c .before .before .before .before .is-idle .ensures) ∙ c .before .before .before .if4 .left)
@@ -97,7 +99,8 @@ returns-6 c =
     let a = c .before .before .before .before .before .before .before .before .before .before .before .before .before .before .args in
     step-by s (a .nodes .now) (a .versions .now) (a .process) (a .kind) (e .found) (a .tally .now)
     true true false false false
-    (sym (c .before .before .before .before .before .before .before .before .before .lawful-store .ensures s (e .same)) ∙ not-false _ (c .before .before .before .before .before .before .before .before .if1 .left))
+    (sym (c .before .before .before .before .before .before .before .before .before .lawful-store .ensures s (e .same))
+    ∙ not-false _ (c .before .before .before .before .before .before .before .before .if1 .left))
     (eq-eqb _ _ (c .before .before .before .before .before .before .before .if2 .left))
     (ap (λ h. leb (getD h (headerOffsets .processes) 0) (a .process)) (e .same) ∙ lt-leb _ _ (c .before .before .before .before .before .if3 .left))
     (sym (c .before .before .before .before .is-idle .ensures) ∙ c .before .before .before .if4 .left)

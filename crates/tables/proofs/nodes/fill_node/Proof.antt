@@ -36,7 +36,11 @@ same-length c = search needs
 returns : tie.Need-returns
 returns c =
     let s = c .before .before .before .before .before .before .before in
-    simp (c .before .before .clear .ensures ∙ ap (λ n. replicate n 0) (s .pre), c .before .before .before .before .before .low-half .ensures, c .before .before .before .before .high-half .ensures)
+    simp (
+      c .before .before .clear .ensures ∙ ap (λ n. replicate n 0) (s .pre),
+      c .before .before .before .before .before .low-half .ensures,
+      c .before .before .before .before .high-half .ensures,
+    )
 
 pub fill-node-spec : {M : Type 1} → statement M
 fill-node-spec =
