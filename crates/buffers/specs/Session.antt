@@ -3,6 +3,7 @@ use Prim.Native.Nat.{ℕ, _+_, _*_, _≤_}
 use mathlib.Core.Path.{_≡_}
 use mathlib.Core.List.{List, _++_}
 use lib.ListN.{length, take, drop, replicate}
+use Rattle.model.specs.declared.types.Opening.{Opening}
 use Rattle.model.specs.declared.types.State.{State}
 use Rattle.model.specs.declared.types.StartResult.{StartResult}
 use Rattle.model.specs.Layout.{nodeWords, versionWords, limits}
@@ -76,16 +77,21 @@ buffers = record {
 
 -- ---- commands
 
+-- an opened store counts "From zero"; "A refused call [..] changes no word of the tables, the tally or the state."
+abbrev pub tallyAfter : Opening → (tally : List ℕ) → List ℕ
+tallyAfter Opening.Opened tally = replicate (length tally) 0
+tallyAfter (Opening.Refused r) tally = tally
+
 abbrev pub openedOn : Session → (keys versions processes limit : ℕ) → Opened → Done
 openedOn w k v p limit o = record {
   line = openLine k v p limit (o .result .outcome);
   session = session (o .result .state)
       (back (tableWords nodeWords k) (o .nodes) (w .nodes))
       (back (tableWords versionWords v) (o .versions) (w .versions))
-      (replicate (length (w .tally)) 0);
+      (tallyAfter (o .result .outcome) (w .tally));
 }
 
--- "Each open replaces the store": its tables and, "From zero", its tally
+-- "Each open replaces the store"
 unfoldable pub openOn : Session → (keys versions processes limit : ℕ) → Done
 openOn w k v p limit = openedOn w k v p limit
     (openOf (take (tableWords nodeWords k) (w .nodes)) (take (tableWords versionWords v) (w .versions)) p limit)

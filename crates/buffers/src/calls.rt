@@ -2,7 +2,7 @@
 ghost use mathlib.Core.Path.{_≡_};
 ghost use Rattle.model.specs.Requests.{put, get};
 ghost use Rattle.decoder.specs.declared.types.Command.the-variants.{Open, Step};
-ghost use Rattle.buffers.specs.Session.{session, done, started, startOn, lookOn, inspectOn, callOn};
+ghost use Rattle.buffers.specs.Session.{session, done, tallyAfter, started, startOn, lookOn, inspectOn, callOn};
 use crate::lend::asked;
 use crate::lend::table_words;
 use crate::types::Performed;
@@ -13,6 +13,7 @@ use lines::outcome::of_open;
 use lines::outcome::of_start;
 use lines::outcome::of_step;
 use model::types::Key;
+use model::types::Opening;
 use model::types::StartResult;
 use model::types::State;
 use printer::types::Line;
@@ -23,8 +24,17 @@ use store::start::start_put;
 use storestep::step::step;
 use tables::fresh::clear;
 
-// An opening is lent tables of the size that it asks for, not those that the state has: each open replaces the store, and
-// its tally with it.
+// A store that is opened counts from zero.
+fn clear_tally(outcome: Opening, tally: &mut [u32])
+    ensures { λ r. ⌜ now (tally .exit) ≡ tallyAfter outcome (now (tally .entry)) ⌝ }
+{
+    match outcome {
+        Opening::Opened => clear(tally),
+        Opening::Refused(_) => {}
+    }
+}
+
+// An opening is lent tables of the size that it asks for, not those that the state has: each open replaces the store.
 pub fn open_on(
     s: State,
     keys: u32,
@@ -42,8 +52,8 @@ pub fn open_on(
     let n = asked(nodes, State::NODE_WORDS, keys);
     let m = asked(versions, State::VERSION_WORDS, count);
     let r = open(&mut nodes[..n], &mut versions[..m], processes, limit);
-    clear(tally);
     let outcome = r.outcome;
+    clear_tally(outcome, tally);
     let state = r.state;
     let line = of_open(keys, count, processes, limit, outcome);
     Performed { line, state }

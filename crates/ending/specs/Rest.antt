@@ -1,4 +1,4 @@
--- Document 01, "Sheet program": how a run goes on, or ends, where no command can be played.
+-- Document 01, "Sheet program": how a run goes on, or ends, at a place in its bytes.
 use Prim.Native.Nat.{ℕ}
 use mathlib.Core.Bool.{Bool}
 use mathlib.Core.List.{List}
@@ -9,11 +9,12 @@ use Rattle.decoder.specs.declared.types.Decoded.{Decoded}
 use Rattle.decoder.specs.declared.types.Decoded.the-variants.{Whole, Unknown, Short, End}
 use Rattle.decoder.specs.Commands.{commandFrom}
 use Rattle.ending.specs.declared.types.Rest.{Rest}
-use Rattle.ending.specs.declared.types.Rest.the-variants.{More, Over, Ends}
+use Rattle.ending.specs.declared.types.Rest.the-variants.{Next, More, Over, Ends}
 
--- "15 unknown byte; 16 command cut short. 15 and 16 end the run, and come before 14."
+-- "15 unknown byte; 16 command cut short. 15 and 16 end the run, and come before 14.": what is cut short or at an end can
+-- go on as long as the sheet has not ended
 unfoldable pub restBy : (ended : Bool) → Decoded → Rest
-restBy ended (Whole c n) = More
+restBy ended (Whole c n) = Next c n
 restBy ended Unknown = Ends UnknownCommand
 restBy ended Short = if ended then Ends CutShort else More
 restBy ended End = if ended then Over else More

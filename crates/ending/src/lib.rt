@@ -1,3 +1,3 @@
-// What a sheet's bytes ask for where no command can be played: more of them, nothing, or that the run ends with a refusal.
+// What a sheet's bytes ask for at a place: a command to be played, more bytes, nothing, or that the run ends with a refusal.
 pub mod rest;
 pub mod types;

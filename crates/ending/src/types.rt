@@ -1,9 +1,11 @@
 // How a run goes on.
+use decoder::types::Command;
 use model::types::Refusal;
 
-// More of the sheet, or its end.
+// What a sheet has at a place.
 pub enum Rest {
-    More, // more bytes, or room for a line
+    Next(Command, usize), // a command, and how many bytes it takes
+    More, // what more bytes decide
     Over, // nothing
-    Ends(Refusal), // that the run ends with this refusal
+    Ends(Refusal), // what ends the run, with this refusal
 }

@@ -1,25 +1,28 @@
--- One try after another: a try that is made, a run that stands still, and no try left.
-use Prim.Native.Nat.{ℕ, zero, suc, _-_, _<_}
+-- One try after another: a try after which the run goes on, one after which it does not, and the last one.
+use Prim.Native.Nat.{ℕ, suc, _-_, _<_}
+use mathlib.Core.Bool.{Bool, true, false}
 use mathlib.Core.List.{List}
 use mathlib.Core.Path.{_≡_, refl, sym, ap, _∙_}
 use native.Mathlib.Omega.{arith}
-use Rattle.interpreter.specs.Sheet.{Playing, playOne, playFor}
+use Rattle.model.specs.Choice.{if_then_else_}
+use Rattle.interpreter.specs.Playing.{Playing, goesOn, playOne, playFor}
 
-made : (n m : ℕ) (bytes : List ℕ) (p q : Playing) → n ≡ suc m → q ≡ playOne bytes p → playFor m bytes q ≡ playFor n bytes p
-unfolding playFor
-made n m bytes p q h e = rw h (ap (playFor m bytes) e)
+either : (t : Bool) (q : Playing) → (if t then q else q) ≡ q
+either true q = refl
+either false q = refl
 
-pub again : (n : ℕ) (bytes : List ℕ) (p q : Playing) → 0 < n → q ≡ playOne bytes p → playFor (n - 1) bytes q ≡ playFor n bytes p
-again n bytes p q h e = made n (n - 1) bytes p q (omega (arith, h)) e
+module _ (bytes : List ℕ) (ended : Bool) (p q : Playing) (e : q ≡ playOne bytes ended p) where
+  made : (n : ℕ) → goesOn (q .needs) ≡ true → playFor n bytes ended q ≡ playFor (suc n) bytes ended p
+  unfolding playFor
+  made n g = let h = ap (λ (x : Playing). goesOn (x .needs)) (sym e) ∙ g in simp h (ap (playFor n bytes ended) e)
 
-stands : (n : ℕ) (bytes : List ℕ) (p : Playing) → playOne bytes p ≡ p → playFor n bytes p ≡ p
-unfolding playFor
-stands zero bytes p e = refl
-stands (suc n) bytes p e = ap (playFor n bytes) e ∙ stands n bytes p e
+  pub again : (left : ℕ) → 0 < left → goesOn (q .needs) ≡ true → playFor (suc (left - 1)) bytes ended q ≡ playFor (suc left) bytes ended p
+  again left h g = let e : suc (left - 1) ≡ left = omega (arith, h) in rw e (made left g)
 
-pub still : (n : ℕ) (bytes : List ℕ) (p q : Playing) → q ≡ playOne bytes p → q ≡ p → q ≡ playFor n bytes p
-still n bytes p q e f = f ∙ sym (stands n bytes p (sym e ∙ f))
+  pub stops : (left : ℕ) → goesOn (q .needs) ≡ false → q ≡ playFor (suc left) bytes ended p
+  unfolding playFor
+  stops left g = let h = ap (λ (x : Playing). goesOn (x .needs)) (sym e) ∙ g in simp h e
 
-pub none-left : (n : ℕ) (bytes : List ℕ) (p : Playing) → n ≡ 0 → p ≡ playFor n bytes p
-unfolding playFor
-none-left n bytes p e = rw e refl
+  pub last : (left : ℕ) → left ≡ 0 → q ≡ playFor (suc left) bytes ended p
+  unfolding playFor
+  last left z = rw z (e ∙ sym (either (goesOn (playOne bytes ended p .needs)) (playOne bytes ended p)))

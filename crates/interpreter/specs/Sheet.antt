@@ -1,62 +1,63 @@
--- Document 01, "Sheet program": commands one after another, from bytes that may not all be read yet, to a page that may fill up.
-use Prim.Native.Nat.{ℕ, zero, suc, _+_, _≤_}
-use mathlib.Core.List.{List}
-use lib.Dec.{leb}
-use lib.ListN.{length, drop}
-use Rattle.model.specs.Choice.{if_then_else_}
+-- Document 01, "Sheet program": what a whole sheet prints.
+use Prim.Native.Nat.{ℕ, zero, suc}
+use mathlib.Core.List.{List, [], _∷_, _++_}
+use lib.ListN.{length, drop, replicate}
+use Rattle.model.specs.declared.types.Refusal.the-variants.{UnknownCommand, CutShort}
+use Rattle.model.specs.State.{closedState}
 use Rattle.decoder.specs.declared.types.Command.{Command}
 use Rattle.decoder.specs.declared.types.Decoded.{Decoded}
 use Rattle.decoder.specs.declared.types.Decoded.the-variants.{Whole, Unknown, Short, End}
 use Rattle.decoder.specs.Commands.{commandFrom}
-use Rattle.printer.specs.Lines.{Page, printOf, room}
-use Rattle.interpreter.specs.declared.types.Played.{Played}
-use Rattle.buffers.specs.Session.{Session, session, Done}
-use Rattle.executor.specs.Perform.{performOf}
+use Rattle.printer.specs.declared.types.Line.{Line}
+use Rattle.printer.specs.declared.types.Line.the-variants.{Refused}
+use Rattle.printer.specs.Lines.{lineOf}
+use Rattle.buffers.specs.Session.{Session, session, buffers}
+use Rattle.executor.specs.Perform.{performedAll}
 
--- a sheet being played: how many of its bytes were, and what is printed
-pub record Playing : Type 0 where
-  pub session : Session
-  pub read : ℕ
-  pub page : Page
+-- ---- what its bytes say
 
-abbrev pub playing : Played → (nodes versions tally out : List ℕ) → Playing
-playing r nodes versions tally out = record {
-  session = session (r .state) nodes versions tally;
-  read = r .read;
-  page = record { bytes = out; next = r .next };
-}
+-- the commands, and what is printed behind their lines
+pub record Script : Type 0 where
+  pub commands : List Command
+  pub ending : List Line
 
--- a run within its bytes and its page
-pub record Within (p : Played) (bytes out : List ℕ) : Type 0 where
-  pub read : p .read ≤ length bytes
-  pub next : p .next ≤ length out
+abbrev pub first : Command → Script → Script
+first c s = record { commands = c ∷ s .commands; ending = s .ending }
 
--- what a command leaves, and its line on the page; the next one stands at `read`
-abbrev pub printed : Playing → (read : ℕ) → Done → Playing
-printed p read d = record { session = d .session; read = read; page = printOf (p .page .bytes) (p .page .next) (d .line) }
+abbrev pub ends : List Line → Script
+ends lines = record { commands = []; ending = lines }
 
--- a whole command is performed and its line printed
-abbrev pub played : Playing → Command → (read : ℕ) → Playing
-played p c read = printed p read (performOf (p .session) c)
+-- "15 unknown byte; 16 command cut short. 15 and 16 end the run, and come before 14.": by what the bytes begin with, and what
+-- they say behind so many of them
+abbrev pub scriptBy : Decoded → (behind : ℕ → Script) → Script
+scriptBy (Whole c n) behind = first c (behind n)
+scriptBy Unknown behind = ends (Refused UnknownCommand ∷ [])
+scriptBy Short behind = ends (Refused CutShort ∷ [])
+scriptBy End behind = ends []
 
--- nothing else is played
-abbrev pub playNext : Playing → Decoded → Playing
-playNext p (Whole c n) = played p c (p .read + n)
-playNext p Unknown = p
-playNext p Short = p
-playNext p End = p
+unfoldable pub scriptFor : (commands : ℕ) → (bytes : List ℕ) → Script
+scriptFor zero bytes = ends []
+scriptFor (suc n) bytes = scriptBy (commandFrom bytes) (λ k. scriptFor n (drop k bytes))
 
--- a command is played only where there is room for its line
-unfoldable pub playOne : (bytes : List ℕ) → Playing → Playing
-playOne bytes p =
-    if leb (p .page .next + room) (length (p .page .bytes))
-    then playNext p (commandFrom (drop (p .read) bytes))
-    else p
+-- a command has a byte at least
+unfoldable pub scriptOf : (bytes : List ℕ) → Script
+scriptOf bytes = scriptFor (length bytes) bytes
 
-unfoldable pub playFor : (commands : ℕ) → (bytes : List ℕ) → Playing → Playing
-playFor zero bytes p = p
-playFor (suc n) bytes p = playFor n bytes (playOne bytes p)
+-- ---- what it prints
 
--- all that can be played: a command has a byte at least
-unfoldable pub playOf : (bytes : List ℕ) → Playing → Playing
-playOf bytes p = playFor (length bytes) bytes p
+abbrev pub linesFrom : Session → Script → List Line
+linesFrom w s = performedAll w (s .commands) .lines ++ s .ending
+
+-- no store is open yet
+abbrev pub firstSession : Session
+firstSession =
+    session closedState (replicate (buffers .nodes) 0) (replicate (buffers .versions) 0) (replicate (buffers .tally) 0)
+
+-- "It prints one line each"
+unfoldable pub sheetOf : (bytes : List ℕ) → List Line
+sheetOf bytes = linesFrom firstSession (scriptOf bytes)
+
+-- as bytes
+unfoldable pub text : List Line → List ℕ
+text [] = []
+text (l ∷ lines) = lineOf l ++ text lines

@@ -27,8 +27,8 @@ slice-aggregate-open-2 c = sym (length-take-le _ _ (c .before .before .asked2 .e
 open-requires : tie.Need-open-requires
 open-requires c κs = search needs
 
-clear-requires : tie.Need-clear-requires
-clear-requires c κs = search needs
+clear-tally-requires : tie.Need-clear-tally-requires
+clear-tally-requires c κs = search needs
 
 of-open-requires : tie.Need-of-open-requires
 of-open-requires c κs = search needs
@@ -50,7 +50,7 @@ returns c =
     let m = c .before .before .before .before .before .before .before .before .before .before .before .before .before .asked2 .ensures in
     let e = simp (n .lent, m .lent) at (c .before .before .before .before .before .before .before .before .before .before .«open»
     .ensures) in
-    simp (← e, c .of-open .ensures, c .before .before .before .before .clear .ensures, n .left, m .left)
+    simp (← e, c .of-open .ensures, c .before .before .before .before .clear-tally .ensures, n .left, m .left)
 
 pub open-on-spec : {M : Type 1} → statement M
 open-on-spec =
@@ -63,7 +63,7 @@ open-on-spec =
     slice-relend-prefix-open-2
     slice-aggregate-open-2
     open-requires
-    clear-requires
+    clear-tally-requires
     of-open-requires
     same-length
     same-length-2

@@ -1,5 +1,4 @@
 -- What `perform` leaves and what `print` leaves, put together.
-use mathlib.Core.Path.{refl}
 use borrow.Author.Needs.{needs}
 use Rattle.interpreter.proofs.play.play_command.Statement.{statement}
 use Rattle.interpreter.proofs.play.play_command.Tie as tie
@@ -26,7 +25,7 @@ returns : tie.Need-returns
 returns c =
     let e = c .before .before .before .before .before .before .before .before .before .before .before .perform .ensures in
     let f = c .before .before .print .ensures in
-    (simp (← e, ← f .0), (f .1, refl))
+    (simp (← e, ← f .0), f .1)
 
 pub play-command-spec : {M : Type 1} → statement M
 play-command-spec =

@@ -1,9 +1,9 @@
--- Room for a line and a whole command, or the run stands.
+-- Room for a line and what stands at the place, or the run stands.
+use mathlib.Core.List.{[]}
 use mathlib.Core.Path.{sym, ap, _∙_}
 use native.Mathlib.Omega.{arith}
 use borrow.Author.Tests.{not-true, not-false}
-use Rattle.interpreter.specs.Sheet.{playOne}
-use Rattle.interpreter.proofs.Whole.{whole-within}
+use Rattle.interpreter.proofs.Whole.{full, plays, needs-bytes, is-over, stays-within, next-within}
 use borrow.Author.Needs.{needs}
 use Rattle.interpreter.proofs.play.play_one.Statement.{statement}
 use Rattle.interpreter.proofs.play.play_one.Tie as tie
@@ -18,21 +18,14 @@ same-length : tie.Need-same-length
 same-length c = search needs
 
 returns : tie.Need-returns
-unfolding playOne
-returns c = (
-  simp (
-    c .stay .ensures,
-    ← c .before .before .has-room .ensures,
-    not-true (c .before .before .has-room .result) (c .before .if1 .taken),
-  ),
-  (
-    λ e. simp (c .stay .ensures),
-    λ h. simp (c .stay .ensures) (record { read = h .read; next = h .next }),
-  ),
-)
+returns c =
+    let e = c .stay .ensures in (
+      full _ _ _ _ _ _ _ _ e (sym (c .before .before .has-room .ensures) ∙ not-true _ (c .before .if1 .taken)),
+      stays-within _ _ _ e,
+    )
 
-decode-requires : tie.Need-decode-requires
-decode-requires c κs = search needs
+rest-requires : tie.Need-rest-requires
+rest-requires c κs = search needs
 
 enum-known-found : tie.Need-enum-known-found
 enum-known-found c = search needs
@@ -42,8 +35,8 @@ start c = c .before .before .before .before .before .before .before .before .bef
 
 add-read : tie.Need-add-read
 add-read c =
-    let w = whole-within (start c .args .bytes .now) (start c .args .p .read) _ _ (sym (c .before .before .found .given .1) ∙ c .before .before .before .before .decode .ensures) in
-    omega (arith, start c .good .1 .0 .0)
+    let w = next-within _ _ _ _ _ (sym (c .before .before .found .given .1) ∙ c .before .before .before .before .rest .ensures) in
+    omega (arith, w, start c .good .1 .0 .0)
 
 play-command-requires : tie.Need-play-command-requires
 play-command-requires c κs = search needs
@@ -60,11 +53,11 @@ enum-told-2 c = search needs
 stay-requires-3 : tie.Need-stay-requires-3
 stay-requires-3 c κs = search needs
 
-enum-told-3 : tie.Need-enum-told-3
-enum-told-3 c = search needs
+enum-known-found-2 : tie.Need-enum-known-found-2
+enum-known-found-2 c = search needs
 
-stay-requires-4 : tie.Need-stay-requires-4
-stay-requires-4 c κs = search needs
+end-requires : tie.Need-end-requires
+end-requires c κs = search needs
 
 same-length-2 : tie.Need-same-length-2
 same-length-2 c = search needs
@@ -79,80 +72,50 @@ same-length-5 : tie.Need-same-length-5
 same-length-5 c = search needs
 
 returns-2 : tie.Need-returns-2
-unfolding playOne
 returns-2 c =
     let d = c .before .before .before .before .before .before .before .before .before .before .before .before .before in
     let e = c .before .before .before .before .before .before .before .before .play-command .ensures in
-    let w = whole-within (start d .args .bytes .now) (start d .args .p .read) _ _ (sym (d .before .before .found .given .1) ∙ d .before .before .before .before .decode .ensures) in (
-      simp (
-        ← d .before .before .before .before .before .before .has-room .ensures,
-        not-false (d .before .before .before .before .before .before .has-room .result) (d .before .before .before .before .before .if1 .left),
-        ← d .before .before .before .before .decode .ensures,
-        d .before .before .found .given .1,
-        ← e .0,
-      ),
-      (
-        λ h. let m = e .1 .1 in cc,
-        λ h. record { read = omega (arith, h .read, ap (λ q. q .read) (e .0)); next = e .1 .0 (h .next) },
-      ),
+    let found = sym (d .before .before .found .given .1) ∙ d .before .before .before .before .rest .ensures in
+    let w = next-within _ _ _ _ _ found in
+    let room = sym (d .before .before .before .before .before .before .has-room .ensures)
+    ∙ not-false _ (d .before .before .before .before .before .if1 .left) in (
+      plays _ _ _ _ _ _ _ _ _ room found (e .0),
+      λ h. record { read = omega (arith, w, h .read, ap (λ q. q .read) (e .0)); next = e .1 (h .next) },
     )
 
 same-length-6 : tie.Need-same-length-6
 same-length-6 c = search needs
 
 returns-3 : tie.Need-returns-3
-unfolding playOne
-returns-3 c = (
-  simp (
-    c .stay2 .ensures,
-    ← c .before .before .before .before .before .has-room .ensures,
-    not-false (c .before .before .before .before .before .has-room .result) (c .before .before .before .before .if1 .left),
-    ← c .before .before .before .decode .ensures,
-    c .before .enum-told .given .1,
-  ),
-  (
-    λ e. simp (c .stay2 .ensures),
-    λ h. simp (c .stay2 .ensures) (record { read = h .read; next = h .next }),
-  ),
-)
+returns-3 c =
+    let e = c .stay2 .ensures in
+    let room = sym (c .before .before .before .before .before .has-room .ensures) ∙ not-false _ (c .before .before .before .before .if1 .left) in (
+      needs-bytes _ _ _ _ _ _ _ _ e room (sym (c .before .enum-told .given .1) ∙ c .before .before .before .rest .ensures),
+      stays-within _ _ _ e,
+    )
 
 same-length-7 : tie.Need-same-length-7
 same-length-7 c = search needs
 
 returns-4 : tie.Need-returns-4
-unfolding playOne
-returns-4 c = (
-  simp (
-    c .stay3 .ensures,
-    ← c .before .before .before .before .before .has-room .ensures,
-    not-false (c .before .before .before .before .before .has-room .result) (c .before .before .before .before .if1 .left),
-    ← c .before .before .before .decode .ensures,
-    c .before .enum-told2 .given .1,
-  ),
-  (
-    λ e. simp (c .stay3 .ensures),
-    λ h. simp (c .stay3 .ensures) (record { read = h .read; next = h .next }),
-  ),
-)
+returns-4 c =
+    let e = c .stay3 .ensures in
+    let room = sym (c .before .before .before .before .before .has-room .ensures) ∙ not-false _ (c .before .before .before .before .if1 .left) in (
+      is-over _ _ _ _ _ _ _ _ e room (sym (c .before .enum-told2 .given .1) ∙ c .before .before .before .rest .ensures),
+      stays-within _ _ _ e,
+    )
 
 same-length-8 : tie.Need-same-length-8
 same-length-8 c = search needs
 
 returns-5 : tie.Need-returns-5
-unfolding playOne
-returns-5 c = (
-  simp (
-    c .stay4 .ensures,
-    ← c .before .before .before .before .before .has-room .ensures,
-    not-false (c .before .before .before .before .before .has-room .result) (c .before .before .before .before .if1 .left),
-    ← c .before .before .before .decode .ensures,
-    c .before .enum-told3 .given .1,
-  ),
-  (
-    λ e. simp (c .stay4 .ensures),
-    λ h. simp (c .stay4 .ensures) (record { read = h .read; next = h .next }),
-  ),
-)
+returns-5 c =
+    let e = c .before .before .end .ensures in
+    let found = sym (c .before .before .before .before .before .found2 .given .1) ∙ c .before .before .before .before .before .before .before .rest .ensures in
+    let room = sym (c .before .before .before .before .before .before .before .before .before .has-room .ensures) ∙ not-false _ (c .before .before .before .before .before .before .before .before .if1 .left) in (
+      plays _ _ _ _ _ _ _ _ _ room found (e .0 _ _ _),
+      λ h. record { read = omega (arith, h .read, ap (λ q. q .read) (e .0 [] [] [])); next = e .1 (h .next) },
+    )
 
 pub play-one-spec : {M : Type 1} → statement M
 play-one-spec =
@@ -162,7 +125,7 @@ play-one-spec =
     stay-requires
     same-length
     returns
-    decode-requires
+    rest-requires
     enum-known-found
     add-read
     play-command-requires
@@ -170,8 +133,8 @@ play-one-spec =
     stay-requires-2
     enum-told-2
     stay-requires-3
-    enum-told-3
-    stay-requires-4
+    enum-known-found-2
+    end-requires
     same-length-2
     same-length-3
     same-length-4
