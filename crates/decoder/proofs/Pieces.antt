@@ -102,3 +102,19 @@ short-below (code ∷ xs) h =
     (λ e. let q : _≡_ {A = ℕ} 0 1 = cc in omega arith)
     (λ f l e. let few = form-short f xs e in omega arith)
     h
+
+form-some : (f : Form) (xs : List ℕ) → formFrom f xs ≡ End → _≡_ {A = ℕ} 0 1
+unfolding formFrom
+form-some f xs = by (ltb (length xs) (total (f .widths))) refl
+  where
+    by : (t : Bool) → ltb (length xs) (total (f .widths)) ≡ t → formFrom f xs ≡ End → _≡_ {A = ℕ} 0 1
+    by true e h = let z : Short ≡ End = simp e at h in cc
+    by false e h = let z : Whole (commandWith f xs) (1 + total (f .widths)) ≡ End = simp e at h in cc
+
+-- an end is where no byte stands
+pub end-empty : (xs : List ℕ) → commandFrom xs ≡ End → xs ≡ []
+unfolding commandFrom
+end-empty [] h = refl
+end-empty (code ∷ xs) h =
+    let z = code-cases (λ d e. d ≡ End → _≡_ {A = ℕ} 0 1) opcodes code xs xs (λ e. cc) (λ f l. form-some f xs) h in
+    cc

@@ -1,2 +1,6 @@
 pub mod Whole
 pub mod Playing
+pub mod Sheets
+pub mod Printed
+pub mod Progress
+pub mod Turns

@@ -1,6 +1,7 @@
 -- Document 01, "Sheet program": what a whole sheet prints.
 use Prim.Native.Nat.{ℕ, zero, suc}
 use mathlib.Core.List.{List, [], _∷_, _++_}
+use mathlib.Core.Path.{_≡_}
 use lib.ListN.{length, drop, replicate}
 use Rattle.model.specs.declared.types.Refusal.the-variants.{UnknownCommand, CutShort}
 use Rattle.model.specs.State.{closedState}
@@ -12,7 +13,7 @@ use Rattle.printer.specs.declared.types.Line.{Line}
 use Rattle.printer.specs.declared.types.Line.the-variants.{Refused}
 use Rattle.printer.specs.Lines.{lineOf}
 use Rattle.buffers.specs.Session.{Session, session, buffers}
-use Rattle.executor.specs.Perform.{performedAll}
+use Rattle.executor.specs.Perform.{performOf, performedAll}
 
 -- ---- what its bytes say
 
@@ -61,3 +62,21 @@ sheetOf bytes = linesFrom firstSession (scriptOf bytes)
 unfoldable pub text : List Line → List ℕ
 text [] = []
 text (l ∷ lines) = lineOf l ++ text lines
+
+-- ---- what it comes to
+
+-- The laws of a sheet, from any session on: how many commands there can be is no part of them.
+pub record SheetLaws : Type 0 where
+  -- "An empty sheet prints nothing."
+  pub empty : sheetOf [] ≡ []
+  -- commands from the front, each performed and printed
+  pub command : (w : Session) (bytes : List ℕ) (c : Command) (n : ℕ) → commandFrom bytes ≡ Whole c n
+      → let d = performOf w c in linesFrom w (scriptOf bytes) ≡ d .line ∷ linesFrom (d .session) (scriptOf (drop n bytes))
+  -- "15 and 16 end the run, and come before 14": in any session, and whatever stands behind an unknown byte
+  pub unknown : (w : Session) (bytes more : List ℕ) → commandFrom bytes ≡ Unknown
+      → linesFrom w (scriptOf (bytes ++ more)) ≡ Refused UnknownCommand ∷ []
+  pub cut-short : (w : Session) (bytes : List ℕ) → commandFrom bytes ≡ Short → linesFrom w (scriptOf bytes) ≡ Refused CutShort ∷ []
+  -- and what stands before them was printed as if nothing stood behind it
+  pub behind : (front bytes : List ℕ) → scriptOf front .ending ≡ []
+      → let a = scriptOf front in let b = scriptOf bytes in
+      scriptOf (front ++ bytes) ≡ record { commands = a .commands ++ b .commands; ending = b .ending }

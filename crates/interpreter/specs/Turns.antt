@@ -1,19 +1,14 @@
 -- A sheet in turns: its bytes come in pieces of any size, and its lines go to pages of any length.
-use Prim.Native.Nat.{ℕ, suc, _≤_, _<_}
+use Prim.Native.Nat.{ℕ, _≤_, _<_}
 use mathlib.Core.Bool.{Bool, true, false, _&&_}
 use mathlib.Core.List.{List, [], _∷_, _++_}
 use mathlib.Core.Path.{_≡_}
 use lib.Dec.{eqb}
 use lib.ListN.{length, take, drop}
-use Rattle.model.specs.declared.types.Refusal.the-variants.{UnknownCommand, CutShort}
 use Rattle.model.specs.Choice.{if_then_else_}
-use Rattle.decoder.specs.declared.types.Command.{Command}
-use Rattle.decoder.specs.declared.types.Decoded.the-variants.{Whole, Unknown, Short, End}
-use Rattle.decoder.specs.Commands.{commandFrom}
-use Rattle.printer.specs.declared.types.Line.the-variants.{Refused}
+use Rattle.model.specs.Linearizability.{All}
 use Rattle.printer.specs.Lines.{Page, room}
 use Rattle.buffers.specs.Session.{Session}
-use Rattle.executor.specs.Perform.{performOf}
 use Rattle.interpreter.specs.declared.types.Needs.{Needs}
 use Rattle.interpreter.specs.Sheet.{scriptOf, linesFrom, firstSession, sheetOf, text}
 use Rattle.interpreter.specs.Playing.{Playing, playOf}
@@ -79,16 +74,36 @@ unfoldable pub runFrom : Run → List Turn → Run
 runFrom r [] = r
 runFrom r (t ∷ turns) = runFrom (turnOf r t) turns
 
-abbrev pub runOf : (sheet : List ℕ) → List Turn → Run
-runOf sheet turns = runFrom (record { session = firstSession; held = []; unread = sheet; printed = []; needs = Needs.Bytes }) turns
+-- a sheet of which nothing was read
+abbrev pub unplayed : (sheet : List ℕ) → Run
+unplayed sheet = record { session = firstSession; held = []; unread = sheet; printed = []; needs = Needs.Bytes }
 
 -- ---- the theorem
 
--- Each page holds what is printed on it: `play` promises it of every call.
+-- each page holds what is printed on it, as `play` promises of every call
 abbrev pub Holds : Run → List Turn → Type 0
 Holds r [] = Unit {0}
 Holds r (t ∷ turns) = (playedAt r t .page .next ≤ length (t .page)) × Holds (turnOf r t) turns
 
--- what is still due
+-- what is still to be printed
 abbrev pub due : Run → List ℕ
 due r = if isOver (r .needs) then [] else text (linesFrom (r .session) (scriptOf (r .held ++ r .unread)))
+
+-- a turn that looks for the end, on a page with room for a line
+abbrev pub Ready : Turn → Type 0
+Ready t = (t .looks ≡ true) × (room ≤ length (t .page))
+
+-- However a sheet is cut and whatever the pages' lengths, the program prints what the sheet prints.
+pub record InTurns : Type 0 where
+  -- after any turns: what was printed, and behind it what is due
+  pub always : (sheet : List ℕ) (turns : List Turn) → Holds (unplayed sheet) turns
+      → let r = runFrom (unplayed sheet) turns in r .printed ++ due r ≡ text (sheetOf sheet)
+  -- all of it, and nothing else, once the run is over
+  pub over : (sheet : List ℕ) (turns : List Turn) → Holds (unplayed sheet) turns
+      → let r = runFrom (unplayed sheet) turns in isOver (r .needs) ≡ true → r .printed ≡ text (sheetOf sheet)
+  -- and when all is read, it is over after as many turns as bytes are held, and one more
+  pub ends : (r : Run) → r .unread ≡ [] → (turns : List Turn) → All Ready turns → length (r .held) < length turns
+      → isOver (runFrom r turns .needs) ≡ true
+  -- more bytes are needed only where fewer are left than the longest command has, so a buffer of as many has room for them
+  pub few : (bytes : List ℕ) (ended : Bool) (p : Playing)
+      → let q = playOf bytes ended p in q .needs ≡ Needs.Bytes → length (drop (q .read) bytes) < 20
