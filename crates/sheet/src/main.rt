@@ -1,9 +1,10 @@
 // Plays a sheet: commands from standard input, a line for each on standard output.
+mod input;
 mod pages;
-mod pieces;
+mod retry;
 mod types;
 
-use crate::pieces::run;
+use crate::pages::run;
 use buffers::types::Buffers;
 
 fn main() {

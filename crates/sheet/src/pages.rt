@@ -1,46 +1,158 @@
-// Output: a page of lines at a time.
-ghost use Rattle.interpreter.specs.Sheet.{Within};
+// Turns: what is held is played, a page of lines at a time, and the page is written.
+ghost use Prim.Native.Nat.{ℕ, _≤_};
+ghost use mathlib.Core.Path.{_≡_};
+ghost use lib.ListN.{length, drop};
+ghost use Rattle.interpreter.specs.declared.types.Needs.{Needs};
+ghost use Rattle.interpreter.specs.Turns.{isOver};
+ghost use Rattle.sheet.specs.Runs.{heldIn, InBuffer, Ready, pageOf, done, pageDone};
+use crate::input::refill;
+use crate::retry::write;
+use crate::types::Paged;
+use crate::types::Run;
 use interpreter::play::play;
+use interpreter::types::Needs;
 use interpreter::types::Played;
-use libc::STDOUT_FILENO;
-use model::types::Refusal;
-use printer::types::Line;
+use model::types::State;
 
-pub fn print_refusal(refusal: Refusal) {
-    let mut out = [0u8; 128];
-    let line = Line::Refused(refusal);
-    let end = line.print(&mut out, 0);
-    io::write_all(STDOUT_FILENO, &out[..end]);
-}
-
-// Plays all whole commands. A proved loop has to end, so it counts its pages down from a number that no run uses up. In the
-// answer `more` tells whether all lines could be written.
-pub fn play_pages(
-    p: Played,
+// Plays what is held, on an empty page.
+fn play_page(
+    r: Run,
     bytes: &[u8],
     nodes: &mut [u32],
     versions: &mut [u32],
     tally: &mut [u32],
     out: &mut [u8],
-) -> Played
-    requires { ⌜ Within p (now bytes) (now out) ⌝ }
-    ensures { λ r. ⌜ Within r (now (bytes .entry)) (now (out .entry)) ⌝ }
+) -> Paged
+    requires { ⌜ InBuffer r (length (now bytes)) ⌝ }
+    requires { ⌜ 20 ≤ length (now bytes) ⌝ }
+    ensures { λ p. ⌜ done p (now (nodes .exit)) (now (versions .exit)) (now (tally .exit)) (now (out .exit))
+        ≡ pageDone r
+        (pageOf r (now (bytes .entry)) (now (nodes .entry)) (now (versions .entry)) (now (tally .entry)) (now (out .entry))) ⌝ }
+    ensures { λ p. ⌜ heldIn (p .run) (now (bytes .entry)) ≡ drop
+        (pageOf r (now (bytes .entry)) (now (nodes .entry)) (now (versions .entry)) (now (tally .entry)) (now (out .entry)) .read)
+        (heldIn r (now (bytes .entry))) ⌝ }
+    ensures { λ p. ⌜ Ready (p .run) (length (now (bytes .entry))) ⌝ }
+    ensures { λ p. ⌜ p .next ≤ length (now (out .entry)) ⌝ }
 {
-    let mut at = p;
-    let mut pages = u64::MAX;
-    while 0 < pages {
-        at = play(at, bytes, nodes, versions, tally, out);
-        let end = at.next;
-        at.next = 0;
-        if end == 0 {
-            at.more = true;
-            return at;
-        }
-        if !io::write_all(STDOUT_FILENO, &out[..end]) {
-            at.more = false;
-            return at;
-        }
-        pages -= 1;
+    let state = r.state;
+    let start = Played {
+        state,
+        read: 0,
+        next: 0,
+        needs: Needs::Nothing,
+    };
+    let from = r.from;
+    let end = r.end;
+    let q = play(
+        start,
+        &bytes[from..end],
+        r.ended,
+        nodes,
+        versions,
+        tally,
+        out,
+    );
+    let after = q.state;
+    let needs = q.needs;
+    let run = Run {
+        state: after,
+        from: from + q.read,
+        end,
+        ended: r.ended,
+        needs,
+    };
+    Paged { run, next: q.next }
+}
+
+// A run that goes no further.
+fn stop(r: Run) -> Run
+    ensures { λ q. ⌜ q .needs ≡ Needs.Over ⌝ }
+    ensures { λ q. ⌜ ((size : ℕ) → InBuffer r size → Ready q size) ⌝ }
+{
+    let state = r.state;
+    Run {
+        state,
+        from: r.from,
+        end: r.end,
+        ended: r.ended,
+        needs: Needs::Over,
     }
-    at
+}
+
+// More bytes, where they are needed.
+fn supply(r: Run, bytes: &mut [u8]) -> Run
+    requires { ⌜ Ready r (length (now bytes)) ⌝ }
+    ensures { λ q. ⌜ Ready q (length (now (bytes .entry))) ⌝ }
+{
+    let needs = r.needs;
+    match needs {
+        Needs::Bytes => refill(r, bytes),
+        Needs::Nothing => r,
+        Needs::Page => r,
+        Needs::Over => r,
+    }
+}
+
+fn is_over(needs: Needs) -> bool
+    ensures { λ r. ⌜ r ≡ isOver needs ⌝ }
+{
+    match needs {
+        Needs::Nothing => false,
+        Needs::Page => false,
+        Needs::Bytes => false,
+        Needs::Over => true,
+    }
+}
+
+// One turn: a page of what can be played, and its lines written. A write that fails ends the run.
+fn turn(
+    r: Run,
+    bytes: &[u8],
+    nodes: &mut [u32],
+    versions: &mut [u32],
+    tally: &mut [u32],
+    out: &mut [u8],
+) -> Run
+    requires { ⌜ InBuffer r (length (now bytes)) ⌝ }
+    requires { ⌜ 20 ≤ length (now bytes) ⌝ }
+    ensures { λ q. ⌜ Ready q (length (now (bytes .entry))) ⌝ }
+{
+    let p = play_page(r, bytes, nodes, versions, tally, out);
+    let next = p.next;
+    let run = p.run;
+    if !write(&out[..next]) {
+        return stop(run);
+    }
+    run
+}
+
+// Turn after turn, until the run is over. It counts its turns down from a number that no run uses up.
+pub fn run(
+    bytes: &mut [u8],
+    nodes: &mut [u32],
+    versions: &mut [u32],
+    tally: &mut [u32],
+    out: &mut [u8],
+) -> Run
+    requires { ⌜ 20 ≤ length (now bytes) ⌝ }
+    ensures { λ r. ⌜ r .needs ≡ Needs.Over ⌝ }
+{
+    let mut at = Run {
+        state: State::closed(),
+        from: 0,
+        end: 0,
+        ended: false,
+        needs: Needs::Bytes,
+    };
+    let mut turns = u64::MAX;
+    while 0 < turns {
+        at = supply(at, bytes);
+        let needs = at.needs;
+        if is_over(needs) {
+            return at;
+        }
+        at = turn(at, bytes, nodes, versions, tally, out);
+        turns -= 1;
+    }
+    stop(at)
 }

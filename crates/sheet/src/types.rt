@@ -1,15 +1,26 @@
+// A run of the program.
+use interpreter::types::Needs;
 use model::types::State;
 
-// A run between two reads: the store's state, how many bytes were read and not played, and whether the run goes on.
+// A run between two turns: the store's state, where the bytes that were read and not played begin and end, whether the input
+// has ended with them, and what the run needs.
 pub struct Run {
     pub state: State,
-    pub held: usize,
-    pub going: bool,
+    pub from: usize,
+    pub end: usize,
+    pub ended: bool,
+    pub needs: Needs,
 }
 
-// What a read left: where the bytes end, whether it failed, and whether the input has ended.
-pub struct Piece {
-    pub end: usize,
-    pub failed: bool,
-    pub ended: bool,
+// What a read brings: so many bytes, the end of the input, or nothing, since it failed.
+pub enum Input {
+    Bytes(usize),
+    End,
+    Failed,
+}
+
+// What a page leaves: the run, and where its lines end.
+pub struct Paged {
+    pub run: Run,
+    pub next: usize,
 }

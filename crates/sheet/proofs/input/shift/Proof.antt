@@ -5,8 +5,8 @@ use native.Mathlib.Omega.{arith}
 use lib.ListN.{length, length-set}
 use borrow.Author.Needs.{needs}
 use Rattle.sheet.proofs.Shifting.{moved, one-more}
-use Rattle.sheet.proofs.pieces.shift.Statement.{statement}
-use Rattle.sheet.proofs.pieces.shift.Tie as tie
+use Rattle.sheet.proofs.input.shift.Statement.{statement}
+use Rattle.sheet.proofs.input.shift.Tie as tie
 
 abbrev Inv-loop : tie.InvT-loop
 Inv-loop bytes₀ from end count n₀ bytes n = (n ≤ count) × (length bytes ≡ length bytes₀) × (bytes ≡ moved bytes₀ from n)

@@ -1,0 +1,49 @@
+-- Bytes only where they are needed.
+use borrow.Author.Needs.{needs}
+use Rattle.sheet.proofs.pages.supply.Statement.{statement}
+use Rattle.sheet.proofs.pages.supply.Tie as tie
+
+enum-told : tie.Need-enum-told
+enum-told c = search needs
+
+refill-requires : tie.Need-refill-requires
+refill-requires c κs = search needs
+
+enum-told-2 : tie.Need-enum-told-2
+enum-told-2 c = search needs
+
+enum-told-3 : tie.Need-enum-told-3
+enum-told-3 c = search needs
+
+enum-told-4 : tie.Need-enum-told-4
+enum-told-4 c = search needs
+
+same-length : tie.Need-same-length
+same-length c = search needs
+
+returns : tie.Need-returns
+returns c = search needs
+
+returns-2 : tie.Need-returns-2
+returns-2 c = search needs
+
+returns-3 : tie.Need-returns-3
+returns-3 c = search needs
+
+returns-4 : tie.Need-returns-4
+returns-4 c = search needs
+
+pub supply-spec : {M : Type 1} → statement M
+supply-spec =
+    tie.close
+    (tie.spec
+    enum-told
+    refill-requires
+    enum-told-2
+    enum-told-3
+    enum-told-4
+    same-length
+    returns
+    returns-2
+    returns-3
+    returns-4)
