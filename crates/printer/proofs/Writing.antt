@@ -1,4 +1,4 @@
--- One text written behind another, and the digits of a number.
+-- One text written behind another, what is left of a text to write, and the digits of a number.
 use Prim.Native.Nat.{ℕ, zero, suc, _+_, _^_, _/_, _%_, _<_, _≤_}
 use mathlib.Core.Path.{_≡_, refl, sym, ap, _∙_}
 use mathlib.Core.Bool.{Bool, true, false}
@@ -29,6 +29,33 @@ no-byte out start h = record { end = sym (add-zero start); bytes = refl; within 
 
 pub one-byte : (out : List ℕ) (start b : ℕ) → start < length out → Wrote out (set out start b) start (start + 1) (b ∷ [])
 one-byte out start b h = record { end = refl; bytes = refl; within = simp length-set (omega arith) }
+
+-- ---- a text written in turns
+
+-- Of a whole text, what is left to write: there is room for it, and written from here on it ends the whole.
+pub record Left (before out : List ℕ) (start next : ℕ) (whole rest : List ℕ) : Type 0 where
+  pub alike : length out ≡ length before
+  pub room : next + length rest ≤ length out
+  pub ends : (after : List ℕ) (k : ℕ) → Wrote out after next k rest → Wrote before after start k whole
+
+pub all-left : (out : List ℕ) (start : ℕ) (whole : List ℕ) → start + length whole ≤ length out → Left out out start start whole whole
+all-left out start whole h = record { alike = refl; room = h; ends = λ after k w. w }
+
+module _ {before out : List ℕ} {start next : ℕ} {whole : List ℕ} where
+  pub none-left : Left before out start next whole [] → Wrote before out start next whole
+  none-left l = l .ends out next (no-byte out next (omega (arith, l .room)))
+
+  module _ (text rest : List ℕ) (l : Left before out start next whole (text ++ rest)) where
+    pub left-room : next + length text ≤ length out
+    left-room = omega (arith, l .room, length-append text rest)
+
+    -- a text more is written
+    pub left-on : {out′ : List ℕ} {next′ : ℕ} → length out′ ≡ length out → Wrote out out′ next next′ text → Left before out′ start next′ whole rest
+    left-on e w = record {
+      alike = e ∙ l .alike;
+      room = omega (arith, l .room, length-append text rest, w .end);
+      ends = λ after k v. l .ends after k (behind w v);
+    }
 
 -- ---- digits
 

@@ -1,9 +1,9 @@
 // Numbers and sentences, written at a position of a lent buffer. Each function answers the position after it.
 ghost use mathlib.Core.Path.{_≡_};
-ghost use Prim.Native.Nat.{_+_, _≤_, _<_};
-ghost use lib.ListN.{length, getD};
+ghost use Prim.Native.Nat.{_+_, _≤_};
+ghost use lib.ListN.{length};
 ghost use Rattle.printer.specs.Text.{decimal, Wrote};
-ghost use Rattle.printer.specs.Sentences.{Place, numberAt, formatOf, sentence};
+ghost use Rattle.printer.specs.Sentences.{Place, numberAt, filled, sentence};
 use crate::types::Sentence;
 
 // The digits of n: those of a tenth of it, then the last.
@@ -20,45 +20,55 @@ fn put_decimal(out: &mut [u8], at: usize, n: u64) -> usize
     last + 1
 }
 
+fn wide(n: u32) -> u64
+    ensures { λ r. ⌜ r ≡ n ⌝ }
+{
+    n as u64
+}
+
 // The number that a place of a format is for.
-fn number_at(s: Sentence, b: u8) -> u64
+fn number_at(key: u64, numbers: &[u32; 6], b: u8) -> u64
     requires { ⌜ Place b ⌝ }
-    ensures { λ r. ⌜ r ≡ numberAt s b ⌝ }
+    ensures { λ r. ⌜ r ≡ numberAt key (now (numbers .entry)) b ⌝ }
 {
     if b == b'0' {
-        return s.key;
+        return key;
     }
     let i = (b - b'1') as usize;
-    s.numbers[i] as u64
+    wide(numbers[i])
 }
 
-// A byte of the two formats, one behind the other.
-fn byte_at(s: Sentence, i: usize) -> u8
-    requires { ⌜ i < length (formatOf s) ⌝ }
-    ensures { λ r. ⌜ r ≡ getD (formatOf s) i 0 ⌝ }
-{
-    if i < s.opening.len() {
-        return s.opening[i];
-    }
-    s.closing[i - s.opening.len()]
-}
-
-// The formats, with the key and the numbers in their places.
-pub fn put_sentence(out: &mut [u8], at: usize, s: Sentence) -> usize
-    requires { ⌜ at + length (sentence s) ≤ length (now out) ⌝ }
-    ensures { λ r. ⌜ Wrote (now (out .entry)) (now (out .exit)) at r (sentence s) ⌝ }
+// A format up to its first dot, with the key and the numbers in their places.
+fn put_half(out: &mut [u8], at: usize, format: &[u8], key: u64, numbers: &[u32; 6]) -> usize
+    requires { ⌜ at + length (filled key (now numbers) (now format)) ≤ length (now out) ⌝ }
+    ensures { λ r. ⌜ Wrote (now (out .entry)) (now (out .exit)) at r (filled key (now (numbers .entry)) (now (format .entry))) ⌝ }
 {
     let mut next = at;
     let mut i = 0;
-    while i < Sentence::BYTES {
-        let b = byte_at(s, i);
+    while i < format.len() {
+        let b = format[i];
+        if b == b'.' {
+            return next;
+        }
         i += 1;
         if (b'0' <= b) & (b <= b'6') {
-            next = put_decimal(out, next, number_at(s, b));
-        } else if b != b'.' {
+            next = put_decimal(out, next, number_at(key, numbers, b));
+        } else {
             out[next] = b;
             next += 1;
         }
     }
     next
+}
+
+// The two halves, one behind the other.
+pub fn put_sentence(out: &mut [u8], at: usize, s: Sentence) -> usize
+    requires { ⌜ at + length (sentence s) ≤ length (now out) ⌝ }
+    ensures { λ r. ⌜ Wrote (now (out .entry)) (now (out .exit)) at r (sentence s) ⌝ }
+{
+    let opening = s.opening;
+    let closing = s.closing;
+    let numbers = s.numbers;
+    let middle = put_half(out, at, &opening, s.key, &numbers);
+    put_half(out, middle, &closing, s.key, &numbers)
 }

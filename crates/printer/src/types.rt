@@ -41,7 +41,7 @@ pub enum Line {
     Refused(Refusal),
 }
 
-// How a half of a line reads: a byte stands for itself, but `0` for the key, `1` to `6` for the numbers, and a dot for nothing.
+// How a half of a line reads: a byte stands for itself, but `0` for the key and `1` to `6` for the numbers; a dot ends it.
 pub type Format = [u8; 25];
 
 // What a line says: how its two halves read, and the key and the numbers that stand in their places.
@@ -50,9 +50,4 @@ pub struct Sentence {
     pub closing: Format,
     pub key: Key,
     pub numbers: [u32; 6],
-}
-
-impl Sentence {
-    // Bytes of the two formats.
-    pub const BYTES: usize = 50;
 }

@@ -30,37 +30,37 @@ enum-told-7 c = search needs
 returns : tie.Need-returns
 unfolding byteCase numberAt piece filled most
 returns c =
-    rw (c .enum-told .given .1) (record { reads = λ s. refl; short = omega arith })
+    rw (c .enum-told .given .1) (record { reads = λ key numbers. refl; short = omega arith })
 
 returns-2 : tie.Need-returns-2
 unfolding byteCase numberAt piece filled most
 returns-2 c =
-    rw (c .enum-told2 .given .1) (record { reads = λ s. refl; short = omega arith })
+    rw (c .enum-told2 .given .1) (record { reads = λ key numbers. refl; short = omega arith })
 
 returns-3 : tie.Need-returns-3
 unfolding byteCase numberAt piece filled most
 returns-3 c =
-    rw (c .enum-told3 .given .1) (record { reads = λ s. refl; short = omega arith })
+    rw (c .enum-told3 .given .1) (record { reads = λ key numbers. refl; short = omega arith })
 
 returns-4 : tie.Need-returns-4
 unfolding byteCase numberAt piece filled most
 returns-4 c =
-    rw (c .enum-told4 .given .1) (record { reads = λ s. refl; short = omega arith })
+    rw (c .enum-told4 .given .1) (record { reads = λ key numbers. refl; short = omega arith })
 
 returns-5 : tie.Need-returns-5
 unfolding byteCase numberAt piece filled most
 returns-5 c =
-    rw (c .enum-told5 .given .1) (record { reads = λ s. refl; short = omega arith })
+    rw (c .enum-told5 .given .1) (record { reads = λ key numbers. refl; short = omega arith })
 
 returns-6 : tie.Need-returns-6
 unfolding byteCase numberAt piece filled most
 returns-6 c =
-    rw (c .enum-told6 .given .1) (record { reads = λ s. refl; short = omega arith })
+    rw (c .enum-told6 .given .1) (record { reads = λ key numbers. refl; short = omega arith })
 
 returns-7 : tie.Need-returns-7
 unfolding byteCase numberAt piece filled most
 returns-7 c =
-    rw (c .enum-told7 .given .1) (record { reads = λ s. refl; short = omega arith })
+    rw (c .enum-told7 .given .1) (record { reads = λ key numbers. refl; short = omega arith })
 
 pub answer-format-spec : {M : Type 1} → statement M
 answer-format-spec =

@@ -2,7 +2,6 @@
 use mathlib.Core.List.{append-assoc}
 use native.Mathlib.Omega.{arith}
 use borrow.Author.Needs.{needs}
-use Rattle.printer.proofs.Filling.{filled-append}
 use Rattle.printer.proofs.print.done.Statement.{statement}
 use Rattle.printer.proofs.print.done.Tie as tie
 
@@ -13,7 +12,7 @@ answer-format-requires : tie.Need-answer-format-requires
 answer-format-requires c κs = search needs
 
 returns : tie.Need-returns
-returns c = (simp (filled-append, c .before .kind-format .ensures .reads, c .answer-format .ensures .reads, append-assoc), omega arith)
+returns c = (simp (c .before .kind-format .ensures .reads, c .answer-format .ensures .reads, append-assoc), omega arith)
 
 pub done-spec : {M : Type 1} → statement M
 done-spec = tie.close (tie.spec kind-format-requires answer-format-requires returns)

@@ -17,15 +17,15 @@ enum-told-3 c = search needs
 
 returns : tie.Need-returns
 unfolding byteCase numberAt piece filled most
-returns c = rw (c .enum-told .given .1) (record { reads = λ s. refl; short = omega arith })
+returns c = rw (c .enum-told .given .1) (record { reads = λ key numbers. refl; short = omega arith })
 
 returns-2 : tie.Need-returns-2
 unfolding byteCase numberAt piece filled most
-returns-2 c = rw (c .enum-told2 .given .1) (record { reads = λ s. refl; short = omega arith })
+returns-2 c = rw (c .enum-told2 .given .1) (record { reads = λ key numbers. refl; short = omega arith })
 
 returns-3 : tie.Need-returns-3
 unfolding byteCase numberAt piece filled most
-returns-3 c = rw (c .enum-told3 .given .1) (record { reads = λ s. refl; short = omega arith })
+returns-3 c = rw (c .enum-told3 .given .1) (record { reads = λ key numbers. refl; short = omega arith })
 
 pub kind-format-spec : {M : Type 1} → statement M
 kind-format-spec =

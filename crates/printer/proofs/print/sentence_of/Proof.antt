@@ -3,6 +3,7 @@ use mathlib.Core.Path.{refl}
 use lib.Dec.{lit≤}
 use borrow.Author.Needs.{needs}
 use Rattle.printer.specs.Sentences.{byteCase, numberAt, piece, filled, most}
+use Rattle.printer.proofs.Filling.{one-half}
 use Rattle.printer.proofs.print.sentence_of.Statement.{statement}
 use Rattle.printer.proofs.print.sentence_of.Tie as tie
 
@@ -65,38 +66,38 @@ two-requires-6 c κs = search needs
 
 returns : tie.Need-returns
 unfolding byteCase numberAt piece filled most
-returns c = simp (c .four .ensures, c .before .before .line .given .1) (refl, lit≤ tt)
+returns c = rw (c .before .before .line .given .1) (one-half (c .four .ensures) refl (lit≤ tt))
 
 returns-2 : tie.Need-returns-2
 unfolding byteCase numberAt piece filled most
-returns-2 c = simp (c .two .ensures, c .before .before .line2 .given .1) (refl, lit≤ tt)
+returns-2 c = rw (c .before .before .line2 .given .1) (one-half (c .two .ensures) refl (lit≤ tt))
 
 returns-3 : tie.Need-returns-3
 unfolding byteCase numberAt piece filled most
-returns-3 c = simp (c .two2 .ensures, c .before .before .line3 .given .1) (refl, lit≤ tt)
+returns-3 c = rw (c .before .before .line3 .given .1) (one-half (c .two2 .ensures) refl (lit≤ tt))
 
 returns-4 : tie.Need-returns-4
 unfolding byteCase numberAt piece filled most
-returns-4 c = simp (c .two3 .ensures, c .before .before .line4 .given .1) (refl, lit≤ tt)
+returns-4 c = rw (c .before .before .line4 .given .1) (one-half (c .two3 .ensures) refl (lit≤ tt))
 
 returns-5 : tie.Need-returns-5
 returns-5 c = (rw (c .before .before .line5 .given .1) (c .done .ensures .0), c .done .ensures .1)
 
 returns-6 : tie.Need-returns-6
 unfolding byteCase numberAt piece filled most
-returns-6 c = simp (c .four2 .ensures, c .before .before .line6 .given .1) (refl, lit≤ tt)
+returns-6 c = rw (c .before .before .line6 .given .1) (one-half (c .four2 .ensures) refl (lit≤ tt))
 
 returns-7 : tie.Need-returns-7
 unfolding byteCase numberAt piece filled most
-returns-7 c = simp (c .two4 .ensures, c .before .enum-told .given .1) (refl, lit≤ tt)
+returns-7 c = rw (c .before .enum-told .given .1) (one-half (c .two4 .ensures) refl (lit≤ tt))
 
 returns-8 : tie.Need-returns-8
 unfolding byteCase numberAt piece filled most
-returns-8 c = simp (c .two5 .ensures, c .before .before .line7 .given .1) (refl, lit≤ tt)
+returns-8 c = rw (c .before .before .line7 .given .1) (one-half (c .two5 .ensures) refl (lit≤ tt))
 
 returns-9 : tie.Need-returns-9
 unfolding byteCase numberAt piece filled most
-returns-9 c = simp (c .two6 .ensures, c .before .number-of .ensures, c .before .before .before .line8 .given .1) (refl, lit≤ tt)
+returns-9 c = rw (c .before .before .before .line8 .given .1) (one-half (c .two6 .ensures) (rw (c .before .number-of .ensures)) (lit≤ tt))
 
 pub sentence-of-spec : {M : Type 1} → statement M
 sentence-of-spec =

@@ -2,13 +2,12 @@
 use Prim.Native.Nat.{ℕ, _+_, _≤_}
 use mathlib.Core.Path.{sym, _∙_}
 use native.Mathlib.Omega.{arith}
-use lib.ListN.{length}
+use lib.ListN.{length, getD}
 use mir.Syntax.{w32, w64}
 use mir.Val.{Fits}
 use borrow.Author.Needs.{needs}
 use borrow.Author.Tests.{leb-true, le-leb, not-true, not-false}
 use Rattle.printer.specs.Lines.{room, printOf}
-use Rattle.printer.specs.Sentences.{number}
 use Rattle.printer.proofs.Filling.{sentence-short}
 use Rattle.printer.proofs.types.Line.print.Statement.{statement}
 use Rattle.printer.proofs.types.Line.print.Tie as tie
@@ -36,7 +35,7 @@ put-sentence-requires : tie.Need-put-sentence-requires
 put-sentence-requires c κs =
     let s = c .sentence-of .result in
     let wide : Fits w64 (s .key) = search needs in
-    let few : (i : ℕ) → Fits w32 (number s i) = λ i. search needs in
+    let few : (i : ℕ) → Fits w32 (getD (s .numbers) i 0) = λ i. search needs in
     omega (arith, spare (c .before .before), sentence-short s (wide .fits) (λ i. few i .fits))
 
 same-length-2 : tie.Need-same-length-2
