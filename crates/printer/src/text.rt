@@ -4,6 +4,7 @@ ghost use Prim.Native.Nat.{_+_, _≤_};
 ghost use lib.ListN.{length};
 ghost use Rattle.printer.specs.Text.{decimal, Wrote};
 ghost use Rattle.printer.specs.Sentences.{Place, numberAt, filled, sentence};
+use crate::types::Format;
 use crate::types::Sentence;
 
 // The digits of n: those of a tenth of it, then the last.
@@ -20,28 +21,22 @@ fn put_decimal(out: &mut [u8], at: usize, n: u64) -> usize
     last + 1
 }
 
-fn wide(n: u32) -> u64
-    ensures { λ r. ⌜ r ≡ n ⌝ }
-{
-    n as u64
-}
-
 // The number that a place of a format is for.
-fn number_at(key: u64, numbers: &[u32; 6], b: u8) -> u64
+fn number_at(key: u64, numbers: [u32; 6], b: u8) -> u64
     requires { ⌜ Place b ⌝ }
-    ensures { λ r. ⌜ r ≡ numberAt key (now (numbers .entry)) b ⌝ }
+    ensures { λ r. ⌜ r ≡ numberAt key numbers b ⌝ }
 {
     if b == b'0' {
         return key;
     }
     let i = (b - b'1') as usize;
-    wide(numbers[i])
+    numbers[i] as u64
 }
 
 // A format up to its first dot, with the key and the numbers in their places.
-fn put_half(out: &mut [u8], at: usize, format: &[u8], key: u64, numbers: &[u32; 6]) -> usize
-    requires { ⌜ at + length (filled key (now numbers) (now format)) ≤ length (now out) ⌝ }
-    ensures { λ r. ⌜ Wrote (now (out .entry)) (now (out .exit)) at r (filled key (now (numbers .entry)) (now (format .entry))) ⌝ }
+fn put_half(out: &mut [u8], at: usize, format: Format, key: u64, numbers: [u32; 6]) -> usize
+    requires { ⌜ at + length (filled key numbers format) ≤ length (now out) ⌝ }
+    ensures { λ r. ⌜ Wrote (now (out .entry)) (now (out .exit)) at r (filled key numbers format) ⌝ }
 {
     let mut next = at;
     let mut i = 0;
@@ -69,6 +64,6 @@ pub fn put_sentence(out: &mut [u8], at: usize, s: Sentence) -> usize
     let opening = s.opening;
     let closing = s.closing;
     let numbers = s.numbers;
-    let middle = put_half(out, at, &opening, s.key, &numbers);
-    put_half(out, middle, &closing, s.key, &numbers)
+    let middle = put_half(out, at, opening, s.key, numbers);
+    put_half(out, middle, closing, s.key, numbers)
 }

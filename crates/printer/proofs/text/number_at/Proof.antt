@@ -15,20 +15,20 @@ sub-i c = search needs
 cast-i : tie.Need-cast-i
 cast-i c = search needs
 
-mul-wide : tie.Need-mul-wide
-mul-wide c = search needs
+mul-result : tie.Need-mul-result
+mul-result c = search needs
 
-element-copy-out-wide : tie.Need-element-copy-out-wide
-element-copy-out-wide c = search needs
+array-read-result : tie.Need-array-read-result
+array-read-result c = search needs
 
-wide-requires : tie.Need-wide-requires
-wide-requires c κs = search needs
+cast-result : tie.Need-cast-result
+cast-result c = search needs
 
 returns-2 : tie.Need-returns-2
 unfolding numberAt
-returns-2 c = simp (ne-eqb (c .before .before .before .args .b) 48 (c .before .before .if1 .left), c .wide .ensures)
+returns-2 c = simp (ne-eqb (c .before .args .b) 48 (c .if1 .left))
 
 pub number-at-spec : {M : Type 1} → statement M
 number-at-spec =
     tie.close
-    (tie.spec returns sub-i cast-i mul-wide element-copy-out-wide wide-requires returns-2)
+    (tie.spec returns sub-i cast-i mul-result array-read-result cast-result returns-2)

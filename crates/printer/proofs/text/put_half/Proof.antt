@@ -16,28 +16,31 @@ use Rattle.printer.proofs.text.put_half.Statement.{statement}
 use Rattle.printer.proofs.text.put_half.Tie as tie
 
 abbrev Inv-loop : tie.InvT-loop
-Inv-loop out₀ at format key numbers next₀ i₀ out next i =
-    (i ≤ length format) × Left out₀ out at next (filled key numbers format) (filled key numbers (drop i format))
+Inv-loop out₀ at key numbers format next₀ i₀ out next i =
+    (i ≤ 25) × Left out₀ out at next (filled key numbers format) (filled key numbers (drop i format))
 
 abbrev μ-loop : tie.MeasureT-loop
-μ-loop out₀ at format key numbers next₀ i₀ out next i = length format - i
+μ-loop out₀ at key numbers format next₀ i₀ out next i = 25 - i
+
+long : (c : tie.Start Inv-loop μ-loop) → length (c .args .t3) ≡ 25
+long c = search needs
 
 -- what a turn has to write
 module _ (c : tie.Else1 Inv-loop μ-loop) where
   abbrev from : tie.Start Inv-loop μ-loop
-  from = c .before .before .before .before .before .before
+  from = c .before .before .before .before
 
   abbrev key : ℕ
   key = from .args .key
 
   abbrev numbers : List ℕ
-  numbers = from .args .numbers .now
+  numbers = from .args .numbers
 
   abbrev format : List ℕ
-  format = from .args .format .now
+  format = from .args .t3
 
   abbrev i : ℕ
-  i = c .before .before .before .loop .i
+  i = c .before .before .loop .i
 
   abbrev b : ℕ
   b = getD format i 0
@@ -46,30 +49,30 @@ module _ (c : tie.Else1 Inv-loop μ-loop) where
   rest = filled key numbers (drop (i + 1) format)
 
   turn : (text : List ℕ) → piece key numbers b ≡ text
-      → Left (from .args .out .now) (c .before .before .before .loop .out) (from .args .at) (c .before .before .before .loop .next)
+      → Left (from .args .out .now) (c .before .before .loop .out) (from .args .at) (c .before .before .loop .next)
       (filled key numbers format) (text ++ rest)
   turn text e =
-      rw (at-piece key numbers format i (omega arith) (c .if1 .left), e) at (c .before .before .before .loop .inv .1)
+      rw (at-piece key numbers format i (omega (arith, long from)) (c .if1 .left), e) at (c .before .before .loop .inv .1)
 
   spare : (text : List ℕ) → piece key numbers b ≡ text
-      → c .before .before .before .loop .next + length text ≤ length (c .before .before .before .loop .out)
+      → c .before .before .loop .next + length text ≤ length (c .before .before .loop .out)
   spare text e = left-room text rest (turn text e)
 
 loop-holds : tie.Need-loop-holds Inv-loop μ-loop
-loop-holds c = (omega arith, let d = c .before .before in all-left (d .args .out .now) (d .args .at) _ (d .pre))
+loop-holds c = (omega arith, let d = c .before in all-left (d .args .out .now) (d .args .at) _ (d .pre))
 
-shared-slice-read-b : tie.Need-shared-slice-read-b Inv-loop μ-loop
-shared-slice-read-b c = omega arith
+array-read-b : tie.Need-array-read-b Inv-loop μ-loop
+array-read-b c = omega arith
 
 same-length : tie.Need-same-length Inv-loop μ-loop
-same-length c = c .before .before .before .loop .inv .1 .alike
+same-length c = c .before .before .loop .inv .1 .alike
 
 returns : tie.Need-returns Inv-loop μ-loop
 returns c =
-    let d = c .before .before .before .before .before .before in
+    let d = c .before .before .before .before in
     let a = d .args in
-    let l = c .before .before .before .loop in
-    none-left (rw (at-dot (a .key) (a .numbers .now) (a .format .now) (l .i) (omega arith) (c .if1 .taken)) at (l .inv .1))
+    let l = c .before .before .loop in
+    none-left (rw (at-dot (a .key) (a .numbers) (d .args .t3) (l .i) (omega (arith, long d)) (c .if1 .taken)) at (l .inv .1))
 
 add-i : tie.Need-add-i Inv-loop μ-loop
 add-i c = omega arith
@@ -113,7 +116,7 @@ loop-less-2 c = omega arith
 loop-again-2 : tie.Need-loop-again-2 Inv-loop μ-loop
 loop-again-2 c =
     let d = c .before in
-    let l = d .before .before .before .loop in
+    let l = d .before .before .loop in
     let w = one-byte (l .out) (l .next) (b d) (slice-write-out c) in
     (omega arith, left-on (b d ∷ []) (rest d) (turn d (b d ∷ []) (itself-is c)) (length-set (l .out) (l .next) (b d)) w)
 
@@ -123,9 +126,9 @@ same-length-2 c = c .before .loop .inv .1 .alike
 returns-2 : tie.Need-returns-2 Inv-loop μ-loop
 unfolding filled
 returns-2 c =
-    let d = c .before .before .before .before in
+    let d = c .before .before .before in
     let l = c .before .loop in
-    none-left (rw (drop-of-length-le (d .args .format .now) {i = l .i} (omega arith)) at (l .inv .1))
+    none-left (rw (drop-of-length-le (d .args .t3) {i = l .i} (omega (arith, long d))) at (l .inv .1))
 
 pub put-half-spec : {M : Type 1} → statement M
 put-half-spec =
@@ -134,7 +137,7 @@ put-half-spec =
     Inv-loop
     μ-loop
     loop-holds
-    shared-slice-read-b
+    array-read-b
     same-length
     returns
     add-i
