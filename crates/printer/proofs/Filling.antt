@@ -69,7 +69,7 @@ sentence-short s wide few =
     rw length-append (omega (arith, short (s .opening), short (s .closing)))
 
 -- a line of one half
-pub one-half : {opening numbers text : List ℕ} {key : ℕ} {s : Sentence} → s ≡ said opening key numbers
+pub one-half-says : {opening numbers text : List ℕ} {key : ℕ} {s : Sentence} → s ≡ said opening key numbers
     → filled key numbers opening ≡ text → most opening ≤ room → (sentence s ≡ text) × (longest s ≤ room)
 unfolding filled most
-one-half {opening} {numbers} {text} {key} e f h = rw e (append-nil (filled key numbers opening) ∙ f, omega (arith, h))
+one-half-says {opening} {numbers} {text} {key} e f h = rw e (append-nil (filled key numbers opening) ∙ f, omega (arith, h))

@@ -43,20 +43,8 @@ fn answer_format(answer: Answer) -> Format
     }
 }
 
-// A line of at most two numbers; one that it has no place for is 0.
-fn two(opening: Format, first: u32, second: u32) -> Sentence
-    ensures { λ r. ⌜ r ≡ said opening 0 (first ∷ second ∷ 0 ∷ 0 ∷ 0 ∷ 0 ∷ []) ⌝ }
-{
-    Sentence {
-        opening,
-        closing: formats::NOTHING,
-        key: 0,
-        numbers: [first, second, 0, 0, 0, 0],
-    }
-}
-
-// A line of four numbers, of which one may be the key.
-fn four(opening: Format, key: Key, first: u32, second: u32, third: u32, fourth: u32) -> Sentence
+// A line of one half and at most four numbers; one that it has no place for is 0, and so is the key.
+fn one_half(opening: Format, key: Key, first: u32, second: u32, third: u32, fourth: u32) -> Sentence
     ensures { λ r. ⌜ r ≡ said opening key (first ∷ second ∷ third ∷ fourth ∷ 0 ∷ 0 ∷ []) ⌝ }
 {
     Sentence {
@@ -95,20 +83,20 @@ fn sentence_of(line: Line) -> Sentence
             versions,
             processes,
             limit,
-        } => four(formats::OPEN, 0, keys, versions, processes, limit),
-        Line::Started { process, tick } => two(formats::START, process, tick),
-        Line::Stepped { process, tick } => two(formats::STEP_ON, process, tick),
-        Line::Waited { process, tick } => two(formats::STEP_WAIT, process, tick),
+        } => one_half(formats::OPEN, 0, keys, versions, processes, limit),
+        Line::Started { process, tick } => one_half(formats::START, 0, process, tick, 0, 0),
+        Line::Stepped { process, tick } => one_half(formats::STEP_ON, 0, process, tick, 0, 0),
+        Line::Waited { process, tick } => one_half(formats::STEP_WAIT, 0, process, tick, 0, 0),
         Line::Done { process, finish } => done(process, finish),
         Line::Looked {
             key,
             back,
             value,
             timestamp,
-        } => four(formats::LOOK, key, back, value, timestamp, 0),
-        Line::Sound => two(formats::SOUND, 0, 0),
-        Line::Fault { level, node } => two(formats::FAULT, level, node),
-        Line::Refused(refusal) => two(formats::REFUSED, number_of(refusal), 0),
+        } => one_half(formats::LOOK, key, back, value, timestamp, 0),
+        Line::Sound => one_half(formats::SOUND, 0, 0, 0, 0, 0),
+        Line::Fault { level, node } => one_half(formats::FAULT, 0, level, node, 0, 0),
+        Line::Refused(refusal) => one_half(formats::REFUSED, 0, number_of(refusal), 0, 0, 0),
     }
 }
 
@@ -116,13 +104,10 @@ fn sentence_of(line: Line) -> Sentence
 pub fn has_room(out: &[u8], at: usize) -> bool
     ensures { λ r. ⌜ r ≡ leb (at + room) (length (now (out .entry))) ⌝ }
 {
-    if out.len() < at {
-        return false;
+    if at <= out.len() {
+        return Line::ROOM <= out.len() - at;
     }
-    if out.len() - at < Line::ROOM {
-        return false;
-    }
-    true
+    false
 }
 
 impl Line {
