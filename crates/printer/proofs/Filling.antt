@@ -17,6 +17,7 @@ use Rattle.printer.specs.Lines.{room}
 use Rattle.printer.specs.Sentences.{byteCase, numberAt, piece, filled, sentence, digitsAt, most, longest, said}
 use Rattle.printer.proofs.Writing.{decimal-few, decimal-wide}
 
+-- what is left of a format, by its first byte
 module _ (key : ℕ) (numbers format : List ℕ) (i : ℕ) (h : i < length format) where
   abbrev b : ℕ
   b = getD format i 0
@@ -32,6 +33,7 @@ module _ (key : ℕ) (numbers format : List ℕ) (i : ℕ) (h : i < length forma
   unfolding filled
   at-piece n = first ∙ simp (ne-eqb b 46 n)
 
+-- how long it becomes
 module _ (key : ℕ) (numbers : List ℕ) (wide : key < 2 ^ 64) (few : (i : ℕ) → getD numbers i 0 < 2 ^ 32) where
   number-short : (b : ℕ) → length (decimal (numberAt key numbers b)) ≤ digitsAt b
   unfolding numberAt

@@ -50,7 +50,8 @@ module _ {before out : List ℕ} {start next : ℕ} {whole : List ℕ} where
     left-room = omega (arith, l .room, length-append text rest)
 
     -- a text more is written
-    pub left-on : {out′ : List ℕ} {next′ : ℕ} → length out′ ≡ length out → Wrote out out′ next next′ text → Left before out′ start next′ whole rest
+    pub left-on : {out′ : List ℕ} {next′ : ℕ} → length out′ ≡ length out → Wrote out out′ next next′ text
+        → Left before out′ start next′ whole rest
     left-on e w = record {
       alike = e ∙ l .alike;
       room = omega (arith, l .room, length-append text rest, w .end);

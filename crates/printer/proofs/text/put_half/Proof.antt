@@ -1,15 +1,14 @@
 -- What is left to write is the format from where the loop is, filled; each turn writes what one byte stands for.
 use Prim.Native.Nat.{ℕ, _+_, _-_, _≤_}
-use mathlib.Core.Path.{_≡_, refl, sym, ap, _∙_}
-use mathlib.Core.Bool.{true, false, _&&_, and-eq-true-iff}
+use mathlib.Core.Path.{_≡_}
+use mathlib.Core.Bool.{and-eq-true-iff}
 use mathlib.Core.List.{List, [], _∷_, _++_}
 use native.Mathlib.Omega.{arith}
-use lib.Dec.{leb}
 use lib.ListN.{length, drop, getD, length-set, drop-of-length-le}
 use borrow.Author.Needs.{needs}
 use Rattle.model.proofs.Tests.{leb-iff}
 use Rattle.printer.specs.Text.{decimal}
-use Rattle.printer.specs.Sentences.{byteCase, numberAt, piece, filled}
+use Rattle.printer.specs.Sentences.{byteCase, piece, filled}
 use Rattle.printer.proofs.Writing.{one-byte, Left, all-left, none-left, left-room, left-on}
 use Rattle.printer.proofs.Filling.{at-dot, at-piece}
 use Rattle.printer.proofs.text.put_half.Statement.{statement}
@@ -59,7 +58,7 @@ module _ (c : tie.Else1 Inv-loop μ-loop) where
   spare text e = left-room text rest (turn text e)
 
 loop-holds : tie.Need-loop-holds Inv-loop μ-loop
-loop-holds c = (omega arith, let d = c .before in all-left (d .args .out .now) (d .args .at) _ (d .pre))
+loop-holds c = let a = c .before .args in (omega arith, all-left (a .out .now) (a .at) _ (c .before .pre))
 
 array-read-b : tie.Need-array-read-b Inv-loop μ-loop
 array-read-b c = omega arith
@@ -72,7 +71,7 @@ returns c =
     let d = c .before .before .before .before in
     let a = d .args in
     let l = c .before .before .loop in
-    none-left (rw (at-dot (a .key) (a .numbers) (d .args .t3) (l .i) (omega (arith, long d)) (c .if1 .taken)) at (l .inv .1))
+    none-left (rw (at-dot (a .key) (a .numbers) (a .t3) (l .i) (omega (arith, long d)) (c .if1 .taken)) at (l .inv .1))
 
 add-i : tie.Need-add-i Inv-loop μ-loop
 add-i c = omega arith
