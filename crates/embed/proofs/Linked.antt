@@ -27,7 +27,7 @@ use Rattle.model.specs.ByValue.{opensBy}
 use Rattle.model.specs.Linearizability.{Linearizable}
 use Rattle.model.proofs.Laws.{refusal-at, numbered, answer-at}
 use Rattle.linearizability.proofs.Simulated.{Same, SameOpening, Simulates, simulated}
-use Rattle.layout.specs.StateWords.{stateFrom, isState}
+use Rattle.layout.specs.StateWords.{stateFrom, isStateAt}
 use Rattle.process.proofs.RoundTrip.{kind-from}
 use Rattle.lent.specs.Calls.{OpenIn, StartIn, StepIn, inspectIn, statusIn}
 use Rattle.lent.specs.Lent.{Lent, Lending, freshLent, withWords, steppedLent, lentWords}
@@ -91,7 +91,7 @@ status-by Granted p = standing-meant (p .call .kind) p
 
 status-meant : (w : List ℕ) (i : ℕ) → MeantAs (statusIn w i)
 unfolding statusIn statusOf
-status-meant w i = go (isState w)
+status-meant w i = go (isStateAt w i)
   where
     go : (b : Bool) → MeantAs (if b then statusOf (stateFrom w) i else Status.Refused Corrupt)
     go true = status-by (statusPermit (stateFrom w) i) (processAt (stateFrom w) i)

@@ -13,7 +13,7 @@ use Rattle.model.specs.Choice.{if_then_else_}
 use Rattle.model.specs.Layout.{levels, limits}
 use Rattle.model.specs.State.{noProcess}
 use Rattle.process.specs.ProcessWords.{sizes, processWords, processFrom, knownProcess}
-use Rattle.layout.specs.StateWords.{allWords, stateWords, allFrom, stateFrom, allKnown, isState}
+use Rattle.layout.specs.StateWords.{allWords, stateWords, allFrom, stateFrom, allKnown, isStateBelow, isState}
 use Rattle.layout.specs.Head.{bit}
 use Rattle.process.proofs.RoundTrip.{process-long, process-from, process-known}
 
@@ -78,6 +78,6 @@ module _ (s : State) (eight : length (s .process) ≡ limits .processes) (six : 
 
   -- and what was encoded is known as a state
   pub state-known : isState (stateWords s) ≡ true
-  unfolding isState stateWords
+  unfolding isStateBelow stateWords
   state-known =
       simp (opened-from (s .opened) .1, all-long (s .process) six, ap (λ n. allKnown n (allWords (s .process))) (sym eight) ∙ all-known (s .process) six, eight)

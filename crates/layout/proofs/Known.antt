@@ -1,8 +1,8 @@
 -- Processes known one after another.
-use Prim.Native.Nat.{ℕ, suc, _+_, _-_, _≤_, _<_}
+use Prim.Native.Nat.{ℕ, zero, suc, _+_, _*_, _-_, _≤_, _<_}
 use mathlib.Core.Bool.{Bool, true, false, _&&_, and-eq-true-iff}
-use mathlib.Core.List.{List, []}
-use mathlib.Core.Path.{_≡_, sym, ap, _∙_}
+use mathlib.Core.List.{List, [], _∷_}
+use mathlib.Core.Path.{_≡_, refl, sym, ap, _∙_}
 use native.Mathlib.Omega.{arith}
 use lib.Dec.{eqb, leb}
 use lib.ListN.{length, getD, take, drop, length-drop, drop-of-length-le}
@@ -12,7 +12,7 @@ use Rattle.model.specs.Layout.{limits}
 use Rattle.model.specs.Choice.{if_then_else_}
 use Rattle.process.specs.ProcessWords.{sizes, knownProcess}
 use Rattle.layout.specs.Head.{bit, headerOffsets, headOffsets, headAt}
-use Rattle.layout.specs.StateWords.{allKnown, knownHead, isState, startOf, part, isStateAt}
+use Rattle.layout.specs.StateWords.{stateFrom, allKnown, knownHead, isStateBelow, startOf, part, isStateAt}
 
 -- the words of the process at a position, as a part that ends where the next begins
 pub part-is : (w : List ℕ) (at : ℕ) → take (at + sizes .process - at) (drop at w) ≡ take (sizes .process) (drop at w)
@@ -40,7 +40,22 @@ pub none-left : (w : List ℕ) (left : ℕ) → left ≡ 0 → true ≡ allKnown
 unfolding allKnown
 none-left w left e = rw e
 
--- ---- the head, then one process or all
+-- past the last process there are no words
+pub none-known : (n : ℕ) → true ≡ allKnown n []
+unfolding allKnown
+none-known zero = refl
+none-known (suc n) = none-known n
+
+all-past : (m n : ℕ) (w : List ℕ) → length w ≡ sizes .process * m → m ≤ n → allKnown m w ≡ allKnown n w
+unfolding allKnown
+all-past zero n [] long h = none-known n
+all-past zero n (x ∷ w) long h = absurd (omega (arith, long))
+all-past (suc m) zero w long h = absurd (omega (arith, h))
+all-past (suc m) (suc n) w long h =
+    ap (λ r. if knownProcess (take (sizes .process) w) then r else false)
+    (all-past m n (drop (sizes .process) w) (length-drop (sizes .process) w ∙ omega (arith, long)) (omega (arith, h)))
+
+-- ---- the head, then one process or the first n
 
 -- as many words as a state has, of this layout: the word that says whether it is open decides
 pub head-by : (w : List ℕ) → length w ≡ sizes .state → getD w (headOffsets .version) 0 ≡ sizes .version
@@ -60,17 +75,27 @@ module _ (w : List ℕ) (h : knownHead w ≡ true) where
   pub head-long : length w ≡ sizes .state
   head-long = eqb-true _ _ (and-eq-true-iff long version .0 (and-eq-true-iff (long && version) opened .0 h .0) .0)
 
+  pub behind-long : length (drop (sizes .head) w) ≡ sizes .process * limits .processes
+  behind-long = length-drop (sizes .head) w ∙ omega (arith, head-long)
+
   pub head-open : getD w (headAt (headerOffsets .opened)) 0 ≤ bit true
   head-open = leb-true _ _ (and-eq-true-iff (long && version) opened .0 h .1)
 
 module _ (w : List ℕ) (i : ℕ) (b : Bool) (head : b ≡ knownHead w) where
-  pub no-head : b ≡ false → (false ≡ isState w) × (false ≡ isStateAt w i)
-  unfolding isState isStateAt
+  pub no-head : b ≡ false → (false ≡ isStateBelow w i) × (false ≡ isStateAt w i)
+  unfolding isStateBelow isStateAt
   no-head e = (simp (← head, e), simp (← head, e))
 
-  pub by-all : b ≡ true → allKnown (limits .processes) (drop (sizes .head) w) ≡ isState w
-  unfolding isState
-  by-all e = simp (← head, e)
+  pub by-first : b ≡ true → allKnown i (drop (sizes .head) w) ≡ isStateBelow w i
+  unfolding isStateBelow
+  by-first e = simp (← head, e)
+
+  pub below-head : isStateBelow w i ≡ true → knownHead w ≡ true
+  unfolding isStateBelow
+  below-head k = and-eq-true-iff (knownHead w) (allKnown i (drop (sizes .head) w)) .0 k .0
+
+  pub by-all : b ≡ true → limits .processes ≤ i → allKnown (limits .processes) (drop (sizes .head) w) ≡ isStateBelow w i
+  by-all e h = all-past (limits .processes) i (drop (sizes .head) w) (behind-long w (sym head ∙ e)) h ∙ by-first e
 
   pub by-one : b ≡ true → knownProcess (part w i) ≡ isStateAt w i
   unfolding isStateAt
@@ -83,3 +108,8 @@ module _ (w : List ℕ) (i : ℕ) (b : Bool) (head : b ≡ knownHead w) where
       let past : length w ≤ startOf i = omega (arith, long, h) in
       let none : drop (startOf i) w ≡ [] = drop-of-length-le w past in
       sym (ap (λ r. knownProcess (take (sizes .process) r)) none) ∙ by-one e
+
+-- the count of processes is a word of the head
+pub count-at : (w : List ℕ) → getD w (headAt (headerOffsets .processes)) 0 ≡ stateFrom w .processes
+unfolding stateFrom
+count-at w = refl

@@ -14,7 +14,7 @@ use Rattle.model.specs.Choice.{if_then_else_}
 use Rattle.model.specs.Layout.{limits}
 use Rattle.model.specs.State.{noProcess, processAt, withEvent}
 use Rattle.process.specs.ProcessWords.{sizes, processWords, processFrom, knownProcess}
-use Rattle.layout.specs.StateWords.{allWords, stateWords, allFrom, stateFrom, allKnown, isState, startOf, part, putEvent}
+use Rattle.layout.specs.StateWords.{allWords, stateWords, allFrom, stateFrom, allKnown, isStateBelow, isState, startOf, part, putEvent}
 use Rattle.layout.specs.Head.{bit, headerWords, headerOffsets, headOffsets, headAt}
 use Rattle.process.proofs.Heads.{heads, heads-are}
 use Rattle.process.proofs.RoundTrip.{process-back, below}
@@ -61,7 +61,7 @@ pub record Facts (w : List ℕ) : Type 0 where
   pub known : allKnown (limits .processes) (drop (sizes .head) w) ≡ true
 
 pub state-facts : (w : List ℕ) → isState w ≡ true → Facts w
-unfolding isState
+unfolding isStateBelow
 state-facts w k =
     let long = eqb (length w) (sizes .state) in
     let version = eqb (getD w (headOffsets .version) 0) (sizes .version) in

@@ -10,12 +10,13 @@ use lib.Seq.{sets, sets-eq, set-getD, set-out, getD-set-same, length-take-le, dr
 use borrow.Author.Tests.{ltb-true, ltb-false}
 use Rattle.model.specs.declared.types.Counts.{Counts}
 use Rattle.model.specs.declared.types.Process.{Process}
+use Rattle.model.specs.Choice.{if_then_else_}
 use Rattle.model.specs.Layout.{limits}
 use Rattle.model.specs.State.{noProcess, processAt, withEvent}
 use Rattle.layout.specs.Head.{headerWords, headerOffsets, headerOf, headOffsets, headAt}
 use Rattle.process.specs.ProcessWords.{sizes, processWords, knownProcess}
-use Rattle.layout.specs.StateWords.{stateWords, allFrom, stateFrom, allKnown, knownHead, isState, startOf, part, isStateAt, putEvent, written}
-use Rattle.layout.proofs.Known.{head-long, head-open, by-one, by-none}
+use Rattle.layout.specs.StateWords.{stateWords, allFrom, stateFrom, allKnown, knownHead, isStateBelow, isState, startOf, part, isStateAt, putEvent, written}
+use Rattle.layout.proofs.Known.{none-known, head-long, behind-long, head-open, by-first, by-one, by-none}
 use Rattle.process.proofs.Heads.{heads, heads-are}
 use Rattle.layout.proofs.Laws.{bit-back, process-at, known-rest, putProcess, event-words}
 use Rattle.process.proofs.RoundTrip.{process-back}
@@ -112,23 +113,43 @@ known-at (suc n) (suc i) w h k =
     ap (λ r. knownProcess (take (sizes .process) r)) (sym (drop-drop (sizes .process * i) (sizes .process) w ∙ ap (λ k. drop k w) e))
     ∙ known-at n i (drop (sizes .process) w) (omega (arith, h)) (known-rest n w k .1)
 
--- words that are a state are one at each of its processes, and at any other number
-pub state-at : (w : List ℕ) (i : ℕ) → isState w ≡ true → isStateAt w i ≡ true
-unfolding isState
-state-at w i k = cases (ltb i (limits .processes)) refl
-  where
-    head : knownHead w ≡ true
-    head = and-eq-true-iff (knownHead w) (allKnown (limits .processes) (drop (sizes .head) w)) .0 k .0
+known-below : (m n : ℕ) (w : List ℕ) → length w ≡ sizes .process * m → allKnown m w ≡ true → allKnown n w ≡ true
+unfolding allKnown
+known-below zero n [] l k = sym (none-known n)
+known-below zero n (x ∷ w) l k = absurd (omega (arith, l))
+known-below (suc m) zero w l k = refl
+known-below (suc m) (suc n) w l k =
+    let f = known-rest m w k in
+    ap (λ b. if b then allKnown n (drop (sizes .process) w) else false) (f .0)
+    ∙ known-below m n (drop (sizes .process) w) (length-drop (sizes .process) w ∙ omega (arith, l)) (f .1)
 
-    cases : (b : Bool) → ltb i (limits .processes) ≡ b → isStateAt w i ≡ true
-    cases true e =
-        let all = and-eq-true-iff (knownHead w) (allKnown (limits .processes) (drop (sizes .head) w)) .0 k .1 in
-        sym (by-one w i (knownHead w) refl head)
-        ∙ ap (λ r. knownProcess (take (sizes .process) r)) (sym (drop-drop (sizes .process * i) (sizes .head) w)) ∙ known-at (limits .processes) i (drop (sizes .head) w) (ltb-true i (limits .processes) e) all
-    cases false e = sym (by-none w i (knownHead w) refl head (ltb-false i (limits .processes) e))
+module _ (w : List ℕ) (k : isState w ≡ true) where
+  both : (knownHead w ≡ true) × (allKnown (limits .processes) (drop (sizes .head) w) ≡ true)
+  unfolding isStateBelow
+  both = and-eq-true-iff (knownHead w) (allKnown (limits .processes) (drop (sizes .head) w)) .0 k
+
+  pub state-head : knownHead w ≡ true
+  state-head = both .0
+
+  -- words that are a state are one below any number
+  pub state-below : (n : ℕ) → isStateBelow w n ≡ true
+  state-below n =
+      sym (by-first w n (knownHead w) refl state-head)
+      ∙ known-below (limits .processes) n (drop (sizes .head) w) (behind-long w state-head) (both .1)
+
+  -- and at each of its processes, and at any other number
+  pub state-at : (i : ℕ) → isStateAt w i ≡ true
+  state-at i = cases (ltb i (limits .processes)) refl
+    where
+      cases : (b : Bool) → ltb i (limits .processes) ≡ b → isStateAt w i ≡ true
+      cases true e =
+          sym (by-one w i (knownHead w) refl state-head)
+          ∙ ap (λ r. knownProcess (take (sizes .process) r)) (sym (drop-drop (sizes .process * i) (sizes .head) w))
+          ∙ known-at (limits .processes) i (drop (sizes .head) w) (ltb-true i (limits .processes) e) (both .1)
+      cases false e = sym (by-none w i (knownHead w) refl state-head (ltb-false i (limits .processes) e))
 
 -- there the words written are the whole state encoded
 pub written-state : (w : List ℕ) (i : ℕ) (p : Process) (counts : Counts) → isState w ≡ true → i < limits .processes
     → length (processWords p) ≡ sizes .process
     → written w i (withEvent (stateFrom w) i counts p) ≡ stateWords (withEvent (stateFrom w) i counts p)
-written-state w i p counts k h l = sym (written-event w i p counts (state-at w i k) h l) ∙ event-words w i p counts k h
+written-state w i p counts k h l = sym (written-event w i p counts (state-at w k i) h l) ∙ event-words w i p counts k h

@@ -61,8 +61,12 @@ knownHead w =
     eqb (length w) (sizes .state) && eqb (getD w (headOffsets .version) 0) (sizes .version)
     && leb (getD w (headAt (headerOffsets .opened)) 0) (bit true)
 
-unfoldable pub isState : List ℕ → Bool
-isState w = knownHead w && allKnown (limits .processes) (drop (sizes .head) w)
+-- the head and the processes below n are a state's; past the last there are no words
+unfoldable pub isStateBelow : List ℕ → (n : ℕ) → Bool
+isStateBelow w n = knownHead w && allKnown n (drop (sizes .head) w)
+
+abbrev pub isState : List ℕ → Bool
+isState w = isStateBelow w (limits .processes)
 
 -- ---- one process of a state
 
@@ -73,7 +77,7 @@ startOf i = sizes .head + sizes .process * i
 abbrev pub part : List ℕ → ℕ → List ℕ
 part w i = take (sizes .process) (drop (startOf i) w)
 
--- the head and process i are a state's: no more is read at a step of it
+-- the head and process i are a state's: no more is read at a start or a step of it
 unfoldable pub isStateAt : List ℕ → ℕ → Bool
 isStateAt w i = knownHead w && knownProcess (part w i)
 

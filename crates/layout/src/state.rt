@@ -1,12 +1,12 @@
 // The whole state in its words.
 ghost use mathlib.Core.Path.{_≡_};
-ghost use Prim.Native.Nat.{_+_};
+ghost use Prim.Native.Nat.{_≤_};
 ghost use lib.ListN.{length, take, drop};
 ghost use mathlib.Core.List.{_++_};
 ghost use Rattle.model.specs.Layout.{limits};
 ghost use Rattle.process.specs.ProcessWords.{sizes};
 ghost use Rattle.layout.specs.Head.{headOffsets};
-ghost use Rattle.layout.specs.StateWords.{headWords, allWords, stateWords, allFrom, stateFrom, allKnown, knownHead, isState, isStateAt, putEvent};
+ghost use Rattle.layout.specs.StateWords.{headWords, allWords, stateWords, allFrom, stateFrom, allKnown, knownHead, isStateBelow, isStateAt, putEvent};
 ghost use lib.Seq.{sets};
 use crate::head::HeadOffsets;
 use crate::head::OPEN;
@@ -19,13 +19,14 @@ use process::words::is_process;
 use process::words::process_in;
 use process::words::put_process;
 
-// Whether all processes have known numbers.
-fn all_known(words: &[u32]) -> bool
+// Whether the first n processes have known numbers.
+fn all_known(words: &[u32], n: u32) -> bool
     requires { ⌜ length (now words) ≡ sizes .state ⌝ }
-    ensures { λ r. ⌜ r ≡ allKnown (limits .processes) (drop (sizes .head) (now (words .entry))) ⌝ }
+    requires { ⌜ n ≤ limits .processes ⌝ }
+    ensures { λ r. ⌜ r ≡ allKnown n (drop (sizes .head) (now (words .entry))) ⌝ }
 {
     let mut at = Sizes::HEAD;
-    let mut left = State::PROCESSES;
+    let mut left = n;
     while 0 < left {
         let end = at + Sizes::PROCESS;
         if !is_process(&words[at..end]) {
@@ -50,17 +51,21 @@ pub fn is_head(words: &[u32]) -> bool
     words[HeadOffsets::OPENED] <= OPEN
 }
 
-// Whether the words are a state of this layout.
-pub fn is_state(words: &[u32]) -> bool
-    ensures { λ r. ⌜ r ≡ isState (now (words .entry)) ⌝ }
+// Whether the head and the processes below the count are a state's: what an inspection reads. The count may be any number.
+pub fn is_state_below_count(words: &[u32]) -> bool
+    ensures { λ r. ⌜ r ≡ isStateBelow (now (words .entry)) (stateFrom (now (words .entry)) .processes) ⌝ }
 {
     if !is_head(words) {
         return false;
     }
-    all_known(words)
+    let n = words[HeadOffsets::PROCESSES];
+    if State::PROCESSES < n {
+        return all_known(words, State::PROCESSES);
+    }
+    all_known(words, n)
 }
 
-// The same of the head and one process: what a step of it reads.
+// The same of the head and one process: what a start, a step and a standing of it read.
 pub fn is_state_at(words: &[u32], process: u32) -> bool
     ensures { λ r. ⌜ r ≡ isStateAt (now (words .entry)) process ⌝ }
 {

@@ -1,5 +1,5 @@
 -- Steps and starts in place: what is left of one process, put into the words, is what the store's call leaves, encoded.
-use Prim.Native.Nat.{ℕ, _+_, _≤_, _<_}
+use Prim.Native.Nat.{ℕ, _+_, _<_}
 use mathlib.Core.Bool.{Bool, true, false, _&&_, and-true, and-false, and-eq-true-iff}
 use mathlib.Core.List.{List}
 use mathlib.Core.Path.{_≡_, refl, sym, ap, _∙_}
@@ -14,25 +14,25 @@ use Rattle.model.specs.declared.types.Permit.{Permit}
 use Rattle.model.specs.declared.types.Permit.the-variants.{Granted, Denied}
 use Rattle.model.specs.declared.types.Refusal.{Refusal}
 use Rattle.model.specs.declared.types.Refusal.the-variants.{Corrupt}
+use Rattle.model.specs.declared.types.Looking.{Looking}
 use Rattle.model.specs.declared.types.Starting.{Starting}
+use Rattle.model.specs.declared.types.Status.{Status}
 use Rattle.model.specs.declared.types.Stepping.{Stepping}
 use Rattle.model.specs.Layout.{Memory, limits}
 use Rattle.model.specs.Phases.{moved, transitionOf, refuses}
 use Rattle.model.specs.State.{processAt, withEvent, lawfulStore}
-use Rattle.model.specs.Calls.{processAfter, begun, startBy, Store, storeOf, stepPermit, stepBy, stepOf}
+use Rattle.model.specs.Calls.{processAfter, begun, startBy, Store, storeOf, stepPermit, stepBy, stepOf, lookPermit, lookBy, lookOf, statusPermit, statusBy, statusOf}
 use Rattle.tables.specs.Room.{memory}
 use Rattle.layout.specs.Head.{headerWords, headerOf}
 use Rattle.calls.specs.Advance.{Advance, advanceBy, advanceOf}
 use Rattle.calls.proofs.Laws.{stays, moves, step-stays, step-moves}
-use Rattle.process.specs.ProcessWords.{sizes, processWords, processOffsets}
-use Rattle.layout.specs.StateWords.{stateWords, stateFrom, knownHead, isState, isStateAt, startOf, putEvent}
-use Rattle.layout.proofs.Laws.{process-at, state-facts, state-back, event-words}
-use Rattle.layout.proofs.Known.{by-none}
-use Rattle.layout.proofs.Whole.{put-part}
+use Rattle.process.specs.ProcessWords.{sizes, processOffsets}
+use Rattle.layout.specs.StateWords.{stateFrom, knownHead, isStateBelow, isStateAt, startOf, written}
+use Rattle.layout.proofs.Laws.{process-at}
+use Rattle.layout.proofs.Known.{head-long, below-head, by-none}
 use Rattle.layout.proofs.Written.{header-at, written-same, written-over}
 use Rattle.apply.specs.Leave.{LeftIn, processIn, evented, leaveIn}
-use Rattle.apply.proofs.Left.{put-sets}
-use Rattle.lent.specs.Calls.{StartIn, startedIn, startUnless, begunIn, StepIn, steppedIn, stepWritten, lawfulIn, stepPermitIn, stepIn}
+use Rattle.lent.specs.Calls.{StartIn, startedIn, startUnless, begunIn, StepIn, steppedIn, stepWritten, lawfulIn, stepPermitIn, stepIn, lookIn, statusIn}
 
 -- ---- step
 
@@ -196,45 +196,56 @@ header-known w k = header-at w 8 (sym (by-none w 8 (knownHead w) refl k (omega a
 
 module _ (w : List ℕ) (i : ℕ) (permit : Permit) (call : ℕ → Call) where
   abbrev begins : StartIn
-  begins = startUnless w (startBy permit (stateFrom w) i (call (stateFrom w .events + 1)))
+  begins = startUnless w i (startBy permit (stateFrom w) i (call (stateFrom w .events + 1)))
 
-  pub start-unknown : isState w ≡ false → startedIn (Starting.Refused Corrupt) w ≡ begins
+  pub start-unknown : isStateAt w i ≡ false → startedIn (Starting.Refused Corrupt) w ≡ begins
   start-unknown e = simp e
 
-  module _ (known : isState w ≡ true) where
+  module _ (known : isStateAt w i ≡ true) where
     pub start-denied : (r : Refusal) → permit ≡ Denied r → startedIn (Starting.Refused r) w ≡ begins
     unfolding startBy
-    start-denied r e = simp (known, e, state-back w known)
+    start-denied r e = simp (known, e, written-same w i known)
 
     begun-in : permit ≡ Granted
         → startedIn (Starting.Started (stateFrom w .events + 1))
-        (stateWords (withEvent (stateFrom w) i (stateFrom w .counts) (begun (call (stateFrom w .events + 1))))) ≡ begins
+        (written w i (withEvent (stateFrom w) i (stateFrom w .counts) (begun (call (stateFrom w .events + 1))))) ≡ begins
     unfolding startBy
     begun-in e = simp (known, e)
 
     -- the process at its walk in its own words, and the event
-    words-begun : i < limits .processes → ((tick : ℕ) → call tick .start ≡ tick)
-        → begunIn w (startOf i) (call (stateFrom w .events + 1))
-        ≡ stateWords (withEvent (stateFrom w) i (stateFrom w .counts) (begun (call (stateFrom w .events + 1))))
-    words-begun few timed =
-        let tick = stateFrom w .events + 1 in
-        let q = begun (call tick) in
-        let fits : startOf i + sizes .process ≤ length w = omega (arith, few, state-facts w known .long) in
-        ap (λ t. evented w (startOf i) t (stateFrom w .counts) q) (timed tick)
-        ∙ ap (λ u. putEvent u tick (stateFrom w .counts))
-        (sym (put-sets w (processWords q) (startOf i) refl fits) ∙ put-part w (processWords q) (startOf i))
-        ∙ event-words w i q (stateFrom w .counts) known few
-
     pub start-granted : (j events : ℕ) (v : List ℕ) → permit ≡ Granted → events ≡ stateFrom w .events → j ≡ i
         → i < limits .processes → ((tick : ℕ) → call tick .start ≡ tick) → v ≡ begunIn w (startOf j) (call (events + 1))
         → startedIn (Starting.Started (events + 1)) v ≡ begins
     start-granted j events v e now slot few timed put =
+        let tick = stateFrom w .events + 1 in
+        let q = begun (call tick) in
         ap (startedIn (Starting.Started (events + 1))) (put ∙ ap (λ j. begunIn w (startOf j) (call (events + 1))) slot)
         ∙ ap (λ n. startedIn (Starting.Started (n + 1)) (begunIn w (startOf i) (call (n + 1)))) now
-        ∙ ap (startedIn (Starting.Started (stateFrom w .events + 1))) (words-begun few timed)
+        ∙ ap (startedIn (Starting.Started tick))
+        (ap (λ t. evented w (startOf i) t (stateFrom w .counts) q) (timed tick) ∙ written-over w i q (stateFrom w .counts) few)
         ∙ begun-in e
 
 -- ---- the calls that change nothing
 
-pub state-long : (w : List ℕ) → isState w ≡ true → length w ≡ sizes .state
-state-long w k = state-facts w k .long
+module _ (w nodes versions : List ℕ) (k back : ℕ) where
+  pub look-headless : knownHead w ≡ false → Looking.Refused Corrupt ≡ lookIn w nodes versions k back
+  unfolding lookIn
+  look-headless e = simp e
+
+  pub look-by : (permit : Permit) → knownHead w ≡ true → lookPermit (stateFrom w) nodes versions k ≡ permit
+      → lookBy permit (memory nodes versions (stateFrom w .counts)) k back ≡ lookIn w nodes versions k back
+  unfolding lookIn lookOf
+  look-by permit known e = simp (known, e)
+
+module _ (w : List ℕ) (i : ℕ) where
+  pub status-unknown : isStateAt w i ≡ false → Status.Refused Corrupt ≡ statusIn w i
+  unfolding statusIn
+  status-unknown e = simp e
+
+  pub status-by : (permit : Permit) → isStateAt w i ≡ true → statusPermit (stateFrom w) i ≡ permit
+      → statusBy permit (processAt (stateFrom w) i) ≡ statusIn w i
+  unfolding statusIn statusOf
+  status-by permit known e = simp (known, e)
+
+pub below-long : (w : List ℕ) (n : ℕ) → isStateBelow w n ≡ true → length w ≡ sizes .state
+below-long w n k = head-long w (below-head w n (knownHead w) refl k)

@@ -30,9 +30,10 @@ use Rattle.linearizability.proofs.Simulated.{Same, SameOpening, Simulates, simu
 use Rattle.process.specs.ProcessWords.{sizes}
 use Rattle.layout.specs.StateWords.{stateWords, stateFrom, isState}
 use Rattle.layout.proofs.Back.{Remembers, state-from, state-known}
-use Rattle.lent.specs.Calls.{OpenIn, openEncoded, openIn, StartIn, startEncoded, startIn, StepIn, lookIn, inspectIn, statusIn}
+use Rattle.layout.proofs.Written.{state-head, state-below, state-at}
+use Rattle.lent.specs.Calls.{OpenIn, openEncoded, openIn, StartIn, StepIn, lookIn, inspectIn, statusIn}
 use Rattle.lent.specs.Lent.{Lent, Lending, freshLent, withWords, steppedLent, lentWords}
-use Rattle.lent.proofs.Encoded.{after-remembers, step-of}
+use Rattle.lent.proofs.Encoded.{after-remembers, start-of, step-of}
 
 -- ---- a state that its words mean: eight processes, each with a node at each level, as every value of its type has
 
@@ -95,22 +96,17 @@ module _ (x : Store) (o : Whole (x .state)) where
   back : stateFrom (stateWords s) ≡ s
   back = state-from s (o .eight) (o .six)
 
-  starts : (i : ℕ) (op : Operation)
-      → startIn (stateWords s) (x .nodes) (x .versions) i op ≡ startEncoded (startOf s (x .nodes) (x .versions) i op)
-  unfolding startIn
-  starts i op = simp (known, back)
-
   looks : (k b : ℕ) → lookIn (stateWords s) (x .nodes) (x .versions) k b ≡ lookOf s (x .nodes) (x .versions) k b
   unfolding lookIn
-  looks k b = simp (known, back)
+  looks k b = simp (state-head (stateWords s) known, back)
 
   stands : (i : ℕ) → statusIn (stateWords s) i ≡ statusOf s i
   unfolding statusIn
-  stands i = simp (known, back)
+  stands i = simp (state-at (stateWords s) known i, back)
 
   shows : viewOf lentWords (lentOf x) ≡ viewOf byValue x
   unfolding inspectIn
-  shows = simp (known, back, fun-ext stands)
+  shows = simp (state-below (stateWords s) known (s .processes), back, fun-ext stands)
 
 -- ---- side by side
 
@@ -143,7 +139,7 @@ start-alike : (x : Store) → Whole (x .state) → (i : ℕ) (op : Operation)
     → Same Holds (lentWords .start (lentOf x) i op) (byValue .start x i op)
 unfolding startOf
 start-alike x o i op =
-    let e = starts x o i op in
+    let e = start-of (x .state) (x .nodes) (x .versions) i op (o .eight) (o .six) in
     let words = ap (λ (r : StartIn). withWords (lentOf x) (r .words)) e in
     (ap (λ (r : StartIn). r .outcome) e, (words, whole-start _ (x .state) i _ o))
 

@@ -1,4 +1,5 @@
--- Each call on a state in words: decode, the store's call, encode. Words that are no state are refused 10, and nothing changes.
+-- Each call on a state in words: decode, the store's call, encode. "Each is given if its condition is the first met", so a call
+-- tests the words that it reads: where these are no state's it is refused 10, and nothing changes.
 use Prim.Native.Nat.{ℕ}
 use mathlib.Core.Bool.{Bool, _&&_}
 use mathlib.Core.List.{List}
@@ -22,7 +23,7 @@ use Rattle.model.specs.Inspection.{inspectOf}
 use Rattle.model.specs.State.{lawfulStore}
 use Rattle.model.specs.Requests.{Operation}
 use Rattle.process.specs.ProcessWords.{sizes}
-use Rattle.layout.specs.StateWords.{stateWords, stateFrom, isState, isStateAt, written}
+use Rattle.layout.specs.StateWords.{stateWords, stateFrom, knownHead, isStateBelow, isStateAt, written}
 use Rattle.apply.specs.Leave.{evented}
 use Rattle.store.specs.Contracts.{startWith}
 
@@ -46,7 +47,7 @@ openIn w nodes versions processes limit =
     if eqb (length w) (sizes .state) then openEncoded (openOf nodes versions processes limit)
     else openedIn (Opening.Refused Corrupt) w nodes versions
 
--- ---- start
+-- ---- start: the head and the process that is started are read and written, and no other word of the state
 
 pub record StartIn : Type 0 where
   pub outcome : Starting
@@ -56,11 +57,11 @@ pub record StartIn : Type 0 where
 abbrev pub startedIn : Starting → (words : List ℕ) → StartIn
 startedIn o w = record { outcome = o; words = w }
 
-abbrev pub startEncoded : StartResult → StartIn
-startEncoded r = startedIn (r .outcome) (stateWords (r .state))
+abbrev pub startWritten : (words : List ℕ) → ℕ → StartResult → StartIn
+startWritten w i r = startedIn (r .outcome) (written w i (r .state))
 
-abbrev pub startUnless : (words : List ℕ) → StartResult → StartIn
-startUnless w r = if isState w then startEncoded r else startedIn (Starting.Refused Corrupt) w
+abbrev pub startUnless : (words : List ℕ) → ℕ → StartResult → StartIn
+startUnless w i r = if isStateAt w i then startWritten w i r else startedIn (Starting.Refused Corrupt) w
 
 -- the call that has these parts, and then a tick
 abbrev pub callWith : Kind → (key value timestamp top tick : ℕ) → Call
@@ -72,12 +73,12 @@ begunIn w at c = evented w at (c .start) (stateFrom w .counts) (begun c)
 
 -- a start with a call that has no tick yet
 abbrev pub startWithIn : (words nodes versions : List ℕ) (process : ℕ) → (call : (tick : ℕ) → Call) → StartIn
-startWithIn w nodes versions i call = startUnless w (startWith (stateFrom w) nodes versions i call)
+startWithIn w nodes versions i call = startUnless w i (startWith (stateFrom w) nodes versions i call)
 
 unfoldable pub startIn : (words nodes versions : List ℕ) (process : ℕ) → Operation → StartIn
-startIn w nodes versions i op = startUnless w (startOf (stateFrom w) nodes versions i op)
+startIn w nodes versions i op = startUnless w i (startOf (stateFrom w) nodes versions i op)
 
--- ---- step: the head and the process that is turned are read and written, and no other word of the state
+-- ---- step: as a start, the process that is turned
 
 pub record StepIn : Type 0 where
   pub outcome : Stepping
@@ -110,11 +111,15 @@ stepIn w nodes versions tally i =
 
 -- ---- the calls that change nothing
 
+-- a look reads the head alone
 unfoldable pub lookIn : (words nodes versions : List ℕ) (key back : ℕ) → Looking
-lookIn w nodes versions k back = if isState w then lookOf (stateFrom w) nodes versions k back else Looking.Refused Corrupt
+lookIn w nodes versions k back = if knownHead w then lookOf (stateFrom w) nodes versions k back else Looking.Refused Corrupt
 
+-- an inspection the processes below the count, which is to be idle
 unfoldable pub inspectIn : (words nodes versions : List ℕ) → Inspecting
-inspectIn w nodes versions = if isState w then inspectOf (stateFrom w) nodes versions else Inspecting.Refused Corrupt
+inspectIn w nodes versions =
+    if isStateBelow w (stateFrom w .processes) then inspectOf (stateFrom w) nodes versions else Inspecting.Refused Corrupt
 
+-- a standing the process asked
 unfoldable pub statusIn : (words : List ℕ) (process : ℕ) → Status
-statusIn w i = if isState w then statusOf (stateFrom w) i else Status.Refused Corrupt
+statusIn w i = if isStateAt w i then statusOf (stateFrom w) i else Status.Refused Corrupt

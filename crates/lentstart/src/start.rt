@@ -10,7 +10,7 @@ use calls::begin::top_of;
 use calls::slot::slot;
 use layout::head::HeadOffsets;
 use layout::state::counts_in;
-use layout::state::is_state;
+use layout::state::is_state_at;
 use layout::state::put_event;
 use model::types::Call;
 use model::types::Key;
@@ -55,7 +55,7 @@ fn start_in(
         ≡ startWithIn (now (words .entry)) (now (nodes .entry)) (now (versions .entry)) process
         (callWith kind key value timestamp top) ⌝ }
 {
-    if !is_state(words) {
+    if !is_state_at(words, process) {
         return Starting::Refused(Refusal::Corrupt);
     }
     let at = Sizes::HEAD + Sizes::PROCESS * slot(process);

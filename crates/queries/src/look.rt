@@ -1,6 +1,7 @@
 // A look at a version of a key.
 ghost use mathlib.Core.Path.{_≡_};
-ghost use Rattle.model.specs.Calls.{findFrom, backFrom, lookNode, lookOf};
+ghost use Rattle.model.specs.Calls.{findFrom, backFrom, lookNode, lookBy, lookOf};
+ghost use Rattle.model.specs.declared.types.Permit.the-variants.{Granted};
 ghost use Rattle.tables.specs.Room.{NodeRoom, VersionRoom, memory, Lent};
 use layout::head::header_of;
 use model::types::Counts;
@@ -69,6 +70,21 @@ fn look_node(counts: Counts, nodes: &[u32], versions: &[u32], back: u32, node: u
     }
 }
 
+// A look that is let pass. Of the state it reads no more than the counts, so that words are not decoded for it.
+pub fn look_granted(
+    counts: Counts,
+    nodes: &[u32],
+    versions: &[u32],
+    key: Key,
+    back: u32,
+) -> Looking
+    requires { ⌜ Lent (now nodes) (now versions) counts ⌝ }
+    ensures { λ r. ⌜ r ≡ lookBy Granted (memory (now (nodes .entry)) (now (versions .entry)) counts) key back ⌝ }
+{
+    let node = find(nodes, counts.nodes, key);
+    look_node(counts, nodes, versions, back, node)
+}
+
 // The version of the key that lies `back` places behind its newest.
 pub fn look(s: State, nodes: &[u32], versions: &[u32], key: Key, back: u32) -> Looking
     ensures { λ r. ⌜ r ≡ lookOf s (now (nodes .entry)) (now (versions .entry)) key back ⌝ }
@@ -78,8 +94,7 @@ pub fn look(s: State, nodes: &[u32], versions: &[u32], key: Key, back: u32) -> L
     match permit {
         Permit::Granted => {
             let counts = s.counts;
-            let node = find(nodes, counts.nodes, key);
-            look_node(counts, nodes, versions, back, node)
+            look_granted(counts, nodes, versions, key, back)
         }
         Permit::Denied(refusal) => Looking::Refused(refusal),
     }

@@ -10,7 +10,7 @@ use refusals::permit::status_permit;
 use values::roles::is_idle;
 
 // A call shows what it is and its ticks, and nothing of where it stands: that is no answer yet.
-fn standing(p: Process) -> Status
+pub fn standing(p: Process) -> Status
     ensures { λ r. ⌜ r ≡ standing (p .call .kind) p ⌝ }
 {
     let call = p.call;

@@ -1,11 +1,10 @@
 -- The processes still to be looked at decide.
-use Prim.Native.Nat.{_+_, _*_}
+use Prim.Native.Nat.{_+_, _*_, _≤_}
 use mathlib.Core.Path.{_≡_, refl, _∙_}
 use native.Mathlib.Omega.{arith}
 use lib.ListN.{drop}
 use borrow.Author.Needs.{needs}
 use borrow.Author.Tests.{not-true, not-false}
-use Rattle.model.specs.Layout.{limits}
 use Rattle.process.specs.ProcessWords.{sizes}
 use Rattle.layout.specs.StateWords.{allKnown}
 use Rattle.layout.proofs.Known.{unknown-first, known-first, none-left}
@@ -13,13 +12,13 @@ use Rattle.layout.proofs.state.all_known.Statement.{statement}
 use Rattle.layout.proofs.state.all_known.Tie as tie
 
 abbrev Inv-loop : tie.InvT-loop
-Inv-loop words at₀ left₀ at left = (at + sizes .process * left ≡ sizes .state) × (allKnown left (drop at words) ≡ allKnown (limits .processes) (drop (sizes .head) words))
+Inv-loop words n at₀ left₀ at left = (at + sizes .process * left ≤ sizes .state) × (allKnown left (drop at words) ≡ allKnown n (drop (sizes .head) words))
 
 abbrev μ-loop : tie.MeasureT-loop
-μ-loop words at₀ left₀ at left = left
+μ-loop words n at₀ left₀ at left = left
 
 loop-holds : tie.Need-loop-holds Inv-loop μ-loop
-loop-holds c = (refl, refl)
+loop-holds c = (omega arith, refl)
 
 add-end : tie.Need-add-end Inv-loop μ-loop
 add-end c = search needs

@@ -12,10 +12,10 @@ use Rattle.model.specs.Layout.{limits}
 use Rattle.model.specs.Calls.{startPermit}
 use Rattle.refusals.proofs.Laws.{MayStart, may-start}
 use Rattle.process.specs.ProcessWords.{sizes}
-use Rattle.layout.specs.StateWords.{stateFrom, isState}
-use Rattle.layout.proofs.Written.{state-at, header-at, events-at}
+use Rattle.layout.specs.StateWords.{stateFrom, isStateAt}
+use Rattle.layout.proofs.Written.{part-facts, header-at, events-at}
 use Rattle.lent.specs.Calls.{callWith}
-use Rattle.lent.proofs.Laws.{kind-at, start-unknown, start-denied, start-granted, state-long}
+use Rattle.lent.proofs.Laws.{kind-at, start-unknown, start-denied, start-granted}
 use Rattle.lentstart.proofs.start.start_in.Statement.{statement}
 use Rattle.lentstart.proofs.start.start_in.Tie as tie
 
@@ -26,11 +26,11 @@ start c = c .before .before .before .before .before .before .before .before .bef
 abbrev call : tie.Start → ℕ → Call
 call c t = let a = c .args in callWith (a .kind) (a .key) (a .value) (a .timestamp) (a .top) t
 
-known : (c : tie.Else1) → isState (c .before .before .before .before .before .before .args .words .now) ≡ true
-known c = sym (c .before .is-state .ensures) ∙ not-false _ (c .if1 .left)
+known : (c : tie.Else1) → let a = c .before .before .before .before .before .before .args in isStateAt (a .words .now) (a .process) ≡ true
+known c = sym (c .before .is-state-at .ensures) ∙ not-false _ (c .if1 .left)
 
 long : (c : tie.Else1) → length (c .before .before .before .before .before .before .args .words .now) ≡ sizes .state
-long c = state-long (c .before .before .before .before .before .before .args .words .now) (known c)
+long c = part-facts _ _ (known c) .0
 
 -- the permit is the definition's: the kind was read at the process's own place
 permit-is : (c : tie.After-start-permit) → let a = start c .args in
@@ -39,7 +39,7 @@ permit-is c =
     let a = start c .args in
     c .start-permit .ensures _
     (record {
-      same = header-at (a .words .now) 0 (state-at (a .words .now) 0 (known (c .before .before .before .before .before .before)));
+      same = header-at (a .words .now) (a .process) (known (c .before .before .before .before .before .before));
       found = λ h. kind-at (a .words .now) (a .process) _ (slot-own _ _ (c .before .before .before .before .before .slot .ensures) h) h ∙ sym (c .before .before .before .kind-from .ensures);
     })
 
@@ -50,15 +50,15 @@ may c = may-start _ _ _ _ _ (permit-is (c .before .before)) (c .enum-told .given
 few : (c : tie.After-enum-told) → start (c .before .before) .args .process < limits .processes
 few c = let f = may c in let l = f .lawful .processes in omega (arith, f .process)
 
-is-state-requires : tie.Need-is-state-requires
-is-state-requires c κs = search needs
+is-state-at-requires : tie.Need-is-state-at-requires
+is-state-at-requires c κs = search needs
 
 same-length : tie.Need-same-length
 same-length c = search needs
 
 returns : tie.Need-returns
 returns c =
-    start-unknown _ _ _ (λ t. call (c .before .before .before .before .before .before) t) (sym (c .before .is-state .ensures) ∙ not-true _ (c .if1 .taken))
+    start-unknown _ _ _ (λ t. call (c .before .before .before .before .before .before) t) (sym (c .before .is-state-at .ensures) ∙ not-true _ (c .if1 .taken))
 
 slot-requires : tie.Need-slot-requires
 slot-requires c κs = search needs
@@ -135,7 +135,7 @@ pub start-in-spec : {M : Type 1} → statement M
 start-in-spec =
     tie.close
     (tie.spec
-    is-state-requires
+    is-state-at-requires
     same-length
     returns
     slot-requires

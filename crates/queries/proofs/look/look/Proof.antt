@@ -1,12 +1,14 @@
--- A granted permit gives room in both tables, and the node found is in use or 0.
-use mathlib.Core.Path.{sym, _∙_}
-use native.Mathlib.Omega.{arith}
+-- A granted permit gives room in both tables.
+use mathlib.Core.Path.{_≡_, sym, _∙_}
 use borrow.Author.Needs.{needs}
-use Rattle.model.specs.Calls.{lookBy, lookOf}
+use Rattle.model.specs.Calls.{lookPermit, lookBy, lookOf}
 use Rattle.refusals.proofs.Laws.{may-look}
-use Rattle.queries.proofs.LookTurns.{find-within}
 use Rattle.queries.proofs.look.look.Statement.{statement}
 use Rattle.queries.proofs.look.look.Tie as tie
+
+permit-is : (c : tie.After-look-permit) → let a = c .before .before .before .before .before .args in
+    c .look-permit .result ≡ lookPermit (a .s) (a .nodes .now) (a .versions .now) (a .key)
+permit-is c = c .look-permit .ensures _ (sym (c .before .before .header-of .ensures))
 
 header-of-requires : tie.Need-header-of-requires
 header-of-requires c κs = search needs
@@ -20,50 +22,23 @@ look-permit-requires c κs = search needs
 enum-told : tie.Need-enum-told
 enum-told c = search needs
 
-find-requires : tie.Need-find-requires
-find-requires c κs =
-    let a = c .before .before .before .before .before .before .before .before .args in
-    let p = c .before .before .before .look-permit .ensures (a .s) (sym (c .before .before .before .before .before .header-of .ensures)) in
-    let l = may-look (a .s) (a .nodes .now) (a .versions .now) (a .key) (sym p ∙ c .before .enum-told .given .1) in
-    l .lent .node
-
-look-node-requires : tie.Need-look-node-requires
-look-node-requires c κs =
-    let a = c .before .before .before .before .before .before .before .before .before .args in
-    let q = c .before .before .before .before in
-    let p = q .look-permit .ensures (a .s) (sym (q .before .before .header-of .ensures)) in
-    let l = may-look (a .s) (a .nodes .now) (a .versions .now) (a .key) (sym p ∙ c .before .before .enum-told .given .1) in
-    let w = find-within (a .nodes .now) (a .key) (a .s .counts .nodes) 1 (omega arith) in
-    (l .lent, omega (arith, c .find .ensures, l .lent .node))
+look-granted-requires : tie.Need-look-granted-requires
+look-granted-requires c κs = may-look _ _ _ _ (sym (permit-is (c .before .before .before)) ∙ c .before .enum-told .given .1) .lent
 
 enum-known-permit : tie.Need-enum-known-permit
 enum-known-permit c = search needs
 
 returns : tie.Need-returns
-unfolding lookOf lookBy
-returns c =
-    let a = c .before .before .before .before .before .before .before .before .before .before .args in
-    let q = c .before .before .before .before .before in
-    let p = q .look-permit .ensures (a .s) (sym (q .before .before .header-of .ensures)) in
-    simp (← p, c .before .before .before .enum-told .given .1, c .look-node .ensures, c .before .find .ensures)
+unfolding lookOf
+returns c = simp (← permit-is (c .before .before .before .before), c .before .before .enum-told .given .1, c .look-granted .ensures)
 
 returns-2 : tie.Need-returns-2
 unfolding lookOf lookBy
-returns-2 c =
-    let a = c .before .before .before .before .before .before .before .before .args in
-    let p = c .before .before .before .look-permit .ensures (a .s) (sym (c .before .before .before .before .before .header-of .ensures)) in
-    simp (← p, c .before .permit .given .1)
+returns-2 c = simp (← permit-is (c .before .before .before), c .before .permit .given .1)
 
 pub look-spec : {M : Type 1} → statement M
 look-spec =
     tie.close
     (tie.spec
-    header-of-requires
-    slice-aggregate-look-permit
-    look-permit-requires
-    enum-told
-    find-requires
-    look-node-requires
-    enum-known-permit
-    returns
-    returns-2)
+    header-of-requires slice-aggregate-look-permit look-permit-requires enum-told look-granted-requires enum-known-permit
+    returns returns-2)
