@@ -68,12 +68,15 @@ pub fn heads(seed: u64) -> Vec<Case> {
 }
 
 /// One to three words of nodes and versions in use altered, for an inspection (mostly of an idle store), a look or a
-/// step.
+/// step; at times beside unknown numbers.
 pub fn tables(seed: u64) -> Vec<Case> {
     let (words, mut random) = live(seed);
     let case = |_| {
         let mut words = words.clone();
         (0..random.within(1, 3)).for_each(|_| alter_table(&mut random, &mut words));
+        if random.once_in(4) {
+            scatter_numbers(&mut random, &mut words);
+        }
         let asked = random.pick(&[Asked::Inspect, Asked::Inspect, Asked::Look, Asked::Step, Asked::Step]);
         if asked == Asked::Inspect && !random.once_in(8) {
             (0..8).for_each(|process| words.part_mut(Part::State)[words_of(process)][KIND] = 0);
@@ -120,25 +123,25 @@ pub fn lengths(seed: u64) -> Vec<Case> {
     (0..32).map(case).collect()
 }
 
-/// Random words in the state or in the tables, wild or small, much or little of it.
+/// Random words in the state or in the tables, wild or small, much or little of it; random kinds, phases and answers.
 pub fn random_words(seed: u64) -> Vec<Case> {
     let (words, mut random) = live(seed);
     let case = |number: u32| {
         let mut words = words.clone();
-        match number % 8 {
+        match number % 10 {
             0 => scatter(&mut random, &mut words.part_mut(Part::State)[..]),
             1 => scatter(&mut random, &mut words.part_mut(Part::State)[HEAD..]),
             2 => scatter(&mut random, &mut words.part_mut(Part::State)[1..HEAD]),
-            3 => scatter_numbers(&mut random, &mut words),
-            4 => scatter(&mut random, words.part_mut(Part::Nodes)),
-            5 => scatter(&mut random, words.part_mut(Part::Versions)),
-            6 => scatter(&mut random, words.part_mut(Part::Tally)),
-            _ => Part::ALL.iter().for_each(|&part| scatter(&mut random, words.part_mut(part))),
+            3 => scatter(&mut random, words.part_mut(Part::Nodes)),
+            4 => scatter(&mut random, words.part_mut(Part::Versions)),
+            5 => scatter(&mut random, words.part_mut(Part::Tally)),
+            6 => Part::ALL.iter().for_each(|&part| scatter(&mut random, words.part_mut(part))),
+            _ => scatter_numbers(&mut random, &mut words),
         }
         let operation = operation(&mut random, &words, None);
         Case { words, operation, wide: None }
     };
-    (0..16).map(case).collect()
+    (0..20).map(case).collect()
 }
 
 fn live(seed: u64) -> (Words, Random) {

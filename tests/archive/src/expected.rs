@@ -1,6 +1,7 @@
 //! What document 01 and the layout make of a call on lent words: the model, behind a test for words that are no state.
 
 use crate::words::*;
+use std::ops::Range;
 use store_tests::damage::{Operation, Reply};
 use store_tests::model::{Refusal, State, Store, PROCESSES};
 
@@ -43,23 +44,34 @@ fn on_words(words: &mut Words, operation: Operation) -> Outcome {
         let reply = Reply::Refused(Refusal::AlteredState);
         return Outcome { words: reply.words(), flaw: Some(flaw) };
     }
+    let read = read(words.state(), operation);
     let state = match operation {
         Operation::Open { .. } => State::CLOSED,
-        Operation::Step { process } => State::from_words(&only(words.state(), process)[1..]).expect("a state"),
-        _ => State::from_words(&words.state()[1..]).expect("a state"),
+        _ => State::from_words(&only(words.state(), read.clone())[1..]).expect("a state"),
     };
     let [lent, nodes, versions, tally] = std::mem::take(&mut words.0);
     let mut store = Store { state, node_table: nodes, version_table: versions, tally };
     let reply = operation.perform(&mut store);
-    let lent = match operation {
-        Operation::Step { process } => with(lent, process, &state_words(&store.state)),
-        _ => state_words(&store.state),
-    };
+    let lent = with(lent, read, &state_words(&store.state));
     words.0 = [lent, store.node_table, store.version_table, store.tally];
     Outcome { words: reply.words(), flaw: None }
 }
 
-/// An open reads nothing of the state but its length, a step one process only.
+/// The processes whose words a call uses: its own at a start, a step and a standing, those below the count at an inspection,
+/// none at a look. An open writes all.
+fn read(state: &[u32], operation: Operation) -> Range<usize> {
+    let known = |process: u32| (process as usize).min(PROCESSES);
+    match operation {
+        Operation::Start { process, .. } | Operation::Step { process } | Operation::Status { process } => {
+            known(process)..known(process.saturating_add(1))
+        }
+        Operation::Inspect => 0..known(state[2]),
+        Operation::Look { .. } => 0..0,
+        Operation::Open { .. } => 0..PROCESSES,
+    }
+}
+
+/// An open reads nothing of the state but its length, any other call the head and the processes that it uses.
 fn flaw(state: &[u32], operation: Operation) -> Option<Flaw> {
     let open = matches!(operation, Operation::Open { .. });
     if state.len() != STATE {
@@ -71,11 +83,7 @@ fn flaw(state: &[u32], operation: Operation) -> Option<Flaw> {
     } else if state[1] > 1 {
         return Some(Flaw::Opened);
     }
-    match operation {
-        Operation::Step { process } if process >= PROCESSES as u32 => None,
-        Operation::Step { process } => flaw_of(&state[words_of(process as usize)]),
-        _ => (0..PROCESSES).find_map(|process| flaw_of(&state[words_of(process)])),
-    }
+    read(state, operation).find_map(|process| flaw_of(&state[words_of(process)]))
 }
 
 fn flaw_of(process: &[u32]) -> Option<Flaw> {
@@ -83,29 +91,29 @@ fn flaw_of(process: &[u32]) -> Option<Flaw> {
     Some([Flaw::Kind, Flaw::Phase, Flaw::Answer][unknown])
 }
 
-/// Does a process other than this one have a number that stands for nothing?
-pub fn unknown_beside(state: &[u32], process: u32) -> bool {
-    let others = (0..PROCESSES).filter(|&other| other != process as usize);
-    state.len() == STATE && others.into_iter().any(|other| flaw_of(&state[words_of(other)]).is_some())
+/// Does a process that the call does not use have a number that stands for nothing?
+pub fn unknown_beside(state: &[u32], operation: Operation) -> bool {
+    let other = |process: &usize| !read(state, operation).contains(process);
+    state.len() == STATE && (0..PROCESSES).filter(other).any(|other| flaw_of(&state[words_of(other)]).is_some())
 }
 
-/// The state as a step sees it: the other processes idle, whatever stands there.
-fn only(state: &[u32], process: u32) -> Vec<u32> {
+/// The state as a call sees it that uses these processes: the others idle, whatever stands there.
+fn only(state: &[u32], processes: Range<usize>) -> Vec<u32> {
     let mut seen = state_words(&State::CLOSED);
     seen[..HEAD].copy_from_slice(&state[..HEAD]);
-    if (process as usize) < PROCESSES {
-        let own = words_of(process as usize);
-        seen[own.clone()].copy_from_slice(&state[own]);
-    }
+    let own = words_of_all(processes);
+    seen[own.clone()].copy_from_slice(&state[own]);
     seen
 }
 
-/// The words lent with what a step writes: the head and one process.
-fn with(mut lent: Vec<u32>, process: u32, written: &[u32]) -> Vec<u32> {
+/// The words lent with what such a call writes: the head and these processes.
+fn with(mut lent: Vec<u32>, processes: Range<usize>, written: &[u32]) -> Vec<u32> {
     lent[..HEAD].copy_from_slice(&written[..HEAD]);
-    if (process as usize) < PROCESSES {
-        let own = words_of(process as usize);
-        lent[own.clone()].copy_from_slice(&written[own]);
-    }
+    let own = words_of_all(processes);
+    lent[own.clone()].copy_from_slice(&written[own]);
     lent
+}
+
+fn words_of_all(processes: Range<usize>) -> Range<usize> {
+    words_of(processes.start).start..words_of(processes.end).start
 }

@@ -186,7 +186,10 @@ fn possible() -> BTreeSet<String> {
     kinds.extend(ANSWERS[..5].iter().map(|answer| format!("step 0 done {answer} release")));
     kinds.extend(["step 0 wait lock", "step 0 done found read", "step 0 done none walk"].map(String::from));
     kinds.extend(ANSWERS.map(|answer| format!("step 0 {answer} at the last count")));
-    kinds.extend([0, 5, 8, 9, 11].map(|number| format!("step {number} beside unknown numbers")));
+    for (name, refusals) in &REFUSALS[1..] {
+        let others = refusals.iter().filter(|&&number| number != 10);
+        kinds.extend([0].iter().chain(others).map(|number| format!("{name} {number} beside unknown numbers")));
+    }
     kinds.extend(possible_of_keys());
     kinds
 }
@@ -198,6 +201,7 @@ fn causes(name: &str) -> Vec<String> {
     match name {
         "open" => flaws.take(1).collect(),
         "standing" => flaws.chain(of_state).collect(),
+        "look" => flaws.take(3).chain(of_state).chain(of_tables).collect(),
         "step" => flaws.chain(of_state).chain(of_tables).chain(["tally length".to_string()]).collect(),
         _ => flaws.chain(of_state).chain(of_tables).collect(),
     }
@@ -222,11 +226,10 @@ impl Met {
         *self.numbers.entry((name(operation), number)).or_default() += 1;
         self.add(kind(before.phase, words, operation, outcome));
         key_kinds(before, words, operation, outcome).into_iter().for_each(|kind| self.add(kind));
-        let Operation::Step { process } = operation else { return };
-        if number != 10 && unknown_beside(words.state(), process) {
-            self.add(format!("step {number} beside unknown numbers"));
+        if number != 10 && unknown_beside(words.state(), operation) {
+            self.add(format!("{} {number} beside unknown numbers", name(operation)));
         }
-        if before.counted_out(outcome) {
+        if matches!(operation, Operation::Step { .. }) && before.counted_out(outcome) {
             self.add(format!("step 0 {} at the last count", ANSWERS[outcome.words[4] as usize]));
         }
     }

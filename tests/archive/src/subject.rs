@@ -74,6 +74,11 @@ impl<'a> Subject<'a> {
         self.parts[part as usize].set(index, to);
     }
 
+    /// What is lent as it now stands.
+    pub fn words(&self, part: Part) -> &[u32] {
+        self.parts[part as usize].words()
+    }
+
     /// Makes the call on what is lent; gives the number returned.
     pub fn call(&mut self, operation: Operation, side: Side) -> u32 {
         self.answer.lay(&[UNWRITTEN; 8][..answer_words(operation)], side, false);

@@ -10,7 +10,7 @@ use archive_tests::met::Met;
 use archive_tests::run::{Failure, Run, ENOUGH};
 use archive_tests::subject::Subject;
 use archive_tests::words::{Part, Words};
-use archive_tests::{sizes, watch};
+use archive_tests::{sizes, unknown, watch};
 use std::process::Command;
 use store_tests::broken;
 use store_tests::damage::{case, Operation};
@@ -47,6 +47,7 @@ fn every_slip_is_told() {
         (Slip::AnswerLeft, "answer"),
         (Slip::RefusedCounts, "state"),
         (Slip::OthersMadeKnown, "state"),
+        (Slip::AllTested, "number returned"),
         (Slip::ShortLengths, "number returned"),
         (Slip::RefusedOpenKeeps, "state"),
         (Slip::Word(Part::State, 0), "state"),
@@ -117,6 +118,16 @@ fn wrong_sizes_are_told() {
     }
     assert_eq!(sizes::check(&TWIN), Ok(()));
     assert!(sizes::check(&Interface { node_words: one_more, ..TWIN }).is_err());
+}
+
+/// A number without meaning is met where it is used, and a store that looks at all stations is told.
+#[test]
+fn unknown_numbers_are_met_where_they_are_used() {
+    assert_eq!(unknown::check(&TWIN), Ok(()));
+    SLIP.set(Slip::AllTested);
+    let told = unknown::check(&TWIN);
+    SLIP.set(Slip::None);
+    assert!(told.is_err_and(|told| told.contains("word 0 of station 1, Start")));
 }
 
 const DEADLY: [(&str, Slip, &str); 6] = [

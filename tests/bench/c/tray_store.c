@@ -96,16 +96,22 @@ static inline int known_process(const Process *p)
     return p->kind < KINDS && p->phase < PHASES && p->answer < ANSWERS;
 }
 
-static int lawful_state(const State *s, size_t state_words)
+/* A call tests the head and the processes that it reads: one, or those below the count, or none. */
+static inline int lawful_state(const State *s, size_t state_words) { return state_words == STATE_WORDS && lawful_head(s); }
+
+static inline int lawful_at(const State *s, size_t state_words, uint32_t process)
 {
-    if (state_words != STATE_WORDS || !lawful_head(s)) {
-        return 0;
+    return lawful_state(s, state_words) && (process >= PROCESSES || known_process(&s->process[process]));
+}
+
+static int known_below(const State *s)
+{
+    for (uint32_t i = 0; i < s->processes; i++) {
+        if (!known_process(&s->process[i])) {
+            return 0;
+        }
     }
-    int known = 1;
-    for (int i = 0; i < PROCESSES; i++) {
-        known &= known_process(&s->process[i]);
-    }
-    return known;
+    return 1;
 }
 
 static inline int like_tables(const State *s, size_t node_words, size_t version_words)
@@ -161,12 +167,12 @@ uint32_t tray_open(uint32_t *state, size_t state_words, uint32_t *nodes, size_t 
 static Refusal start_refusal(const State *s, size_t state_words, size_t node_words, size_t version_words,
                              uint32_t process, uint64_t key)
 {
-    return !lawful_state(s, state_words) || !like_tables(s, node_words, version_words) ? CORRUPT
-         : process >= s->processes                                                     ? NO_PROCESS
-         : !lawful_key(key)                                                            ? BAD_KEY
-         : s->process[process].kind != IDLE                                            ? BUSY
-         : s->events >= s->limit                                                       ? SPENT
-                                                                                       : ACCEPTED;
+    return !lawful_at(s, state_words, process) || !like_tables(s, node_words, version_words) ? CORRUPT
+         : process >= s->processes                                                           ? NO_PROCESS
+         : !lawful_key(key)                                                                  ? BAD_KEY
+         : s->process[process].kind != IDLE                                                  ? BUSY
+         : s->events >= s->limit                                                             ? SPENT
+                                                                                             : ACCEPTED;
 }
 
 static uint32_t top_of(uint16_t draw)
@@ -604,7 +610,7 @@ uint32_t tray_inspect(const uint32_t *state, size_t state_words, const uint32_t 
     const Node *table = (const Node *)nodes;
     uint32_t reaching[LEVELS], at;
     memset(answer, 0, 3 * sizeof *answer);
-    if (!lawful_state(s, state_words) || !like_tables(s, node_words, reading_words)) {
+    if (!lawful_state(s, state_words) || !known_below(s) || !like_tables(s, node_words, reading_words)) {
         return CORRUPT;
     }
     if (!idle_below(s)) {
@@ -626,7 +632,7 @@ uint32_t tray_standing(const uint32_t *state, size_t state_words, uint32_t stati
 {
     const State *s = (const State *)state;
     memset(answer, 0, 3 * sizeof *answer);
-    if (!lawful_state(s, state_words)) {
+    if (!lawful_at(s, state_words, station)) {
         return CORRUPT;
     }
     if (station >= s->processes) {

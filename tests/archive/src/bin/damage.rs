@@ -3,7 +3,7 @@
 
 use archive_tests::archive::ARCHIVE;
 use archive_tests::run::{Run, ENOUGH};
-use archive_tests::{sizes, watch};
+use archive_tests::{sizes, unknown, watch};
 use std::process::ExitCode;
 use std::time::Instant;
 
@@ -32,7 +32,8 @@ fn main() -> ExitCode {
         return ExitCode::from(2);
     };
     watch::begin();
-    match sizes::check(&ARCHIVE).and_then(|()| compare(&options)) {
+    let first = sizes::check(&ARCHIVE).and_then(|()| unknown::check(&ARCHIVE));
+    match first.and_then(|()| compare(&options)) {
         Ok(()) => ExitCode::SUCCESS,
         Err(failure) => {
             println!("{failure}");

@@ -128,7 +128,8 @@ pub fn scatter(random: &mut Random, words: &mut [u32]) {
     }
 }
 
-/// Kinds, phases and answers of some processes, known and unknown ones, each just past its greatest or wild.
+/// Kinds, phases and answers of some processes, known and unknown ones, each just past its greatest or wild; at times with the
+/// event limit spent.
 pub fn scatter_numbers(random: &mut Random, words: &mut Words) {
     let state = words.part_mut(Part::State);
     for _ in 0..random.within(1, 4) {
@@ -136,5 +137,8 @@ pub fn scatter_numbers(random: &mut Random, words: &mut Words) {
         let (word, greatest) = random.pick(&NUMBERS);
         let number = random.pick(&[0, 1, greatest, greatest + 1, greatest + 2, 255, 256, 1 << 16, 1 << 31, u32::MAX]);
         state[words_of(process)][word] = number;
+    }
+    if random.once_in(2) {
+        state[4] = state[3];
     }
 }

@@ -1,6 +1,6 @@
 //! The model behind the header's functions, on lent memory: right, or with one slip that the comparison has to tell.
 
-use archive_tests::expected::{perform, Outcome};
+use archive_tests::expected::{perform, unknown_beside, Outcome};
 use archive_tests::fence::{page_words, WIDE};
 use archive_tests::interface::Interface;
 use archive_tests::subject::answer_words;
@@ -10,7 +10,7 @@ use std::ptr::null_mut;
 use store_tests::broken::{self, Broken};
 use store_tests::damage::{Operation, Reply};
 use store_tests::machine::Machine;
-use store_tests::model::{low_half, Call, State, Store};
+use store_tests::model::{low_half, Call, Refusal, State, Store};
 
 #[derive(Clone, Copy, Debug, PartialEq, Eq)]
 pub enum Slip {
@@ -27,6 +27,8 @@ pub enum Slip {
     RefusedCounts,
     /// A step alters this word of this part, if there is one.
     Word(Part, usize),
+    /// A start refuses unknown numbers of any process.
+    AllTested,
     /// A step makes the unknown numbers of other processes known.
     OthersMadeKnown,
     /// Lengths are counted in 32 bits.
@@ -71,6 +73,9 @@ unsafe fn turn(lent: Lent, operation: Operation, answer: *mut u32) -> u32 {
     let mut outcome = match (slip, operation) {
         (Slip::Model(_), Operation::Open { .. } | Operation::Status { .. }) => perform(&mut words, wide, operation),
         (Slip::Model(slip), _) => broken_call(&mut words, slip, operation),
+        (Slip::AllTested, Operation::Start { .. }) if unknown_beside(before.state(), operation) => {
+            Outcome { words: Reply::Refused(Refusal::AlteredState).words(), flaw: None }
+        }
         (Slip::ShortKeys, _) => perform(&mut words, wide, short(operation)),
         _ => perform(&mut words, wide, operation),
     };
