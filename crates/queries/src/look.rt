@@ -71,13 +71,7 @@ fn look_node(counts: Counts, nodes: &[u32], versions: &[u32], back: u32, node: u
 }
 
 // A look that is let pass. Of the state it reads no more than the counts, so that words are not decoded for it.
-pub fn look_granted(
-    counts: Counts,
-    nodes: &[u32],
-    versions: &[u32],
-    key: Key,
-    back: u32,
-) -> Looking
+pub fn look_granted(counts: Counts, nodes: &[u32], versions: &[u32], key: Key, back: u32) -> Looking
     requires { ⌜ Lent (now nodes) (now versions) counts ⌝ }
     ensures { λ r. ⌜ r ≡ lookBy Granted (memory (now (nodes .entry)) (now (versions .entry)) counts) key back ⌝ }
 {

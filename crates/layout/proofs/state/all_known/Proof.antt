@@ -41,7 +41,7 @@ is-process-requires c κs = search needs
 returns : tie.Need-returns Inv-loop μ-loop
 returns c =
     let l = c .before .before .before .before .loop in
-    unknown-first _ (l .at) (l .left) (c .before .before .before .loop-test .taken) (c .before .is-process .result)
+    unknown-first _ (l .at) (l .left) (omega arith) (c .before .is-process .result)
     (c .before .is-process .ensures) (not-true _ (c .if1 .taken)) ∙ l .inv .1
 
 sub-left : tie.Need-sub-left Inv-loop μ-loop
@@ -54,7 +54,7 @@ loop-again : tie.Need-loop-again Inv-loop μ-loop
 loop-again c =
     let l = c .before .before .before .before .loop in (
       omega arith,
-      known-first _ (l .at) (l .left) (c .before .before .before .loop-test .taken) (c .before .is-process .result)
+      known-first _ (l .at) (l .left) (omega arith) (c .before .is-process .result)
           (c .before .is-process .ensures) (not-false _ (c .if1 .left)) ∙ l .inv .1,
     )
 
