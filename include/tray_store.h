@@ -82,8 +82,9 @@ extern "C" {
  *  9 SPENT           the count of events has come to the event limit
  * 10 CORRUPT         the words lent are no open state, or do not go together. One of these:
  *                      state_words is not 161, or word 0 is not 2, or word 1 is not 1 (0: closed);
- *                      a kind above 2, a phase above 8 or an answer above 6 in the words of any of the eight stations,
- *                      whatever the count of stations (at a step: in those of the station stepped alone);
+ *                      a kind above 2, a phase above 8 or an answer above 6 in the words of a station that the call uses:
+ *                      at a start, a step and standing the station asked (0 to 7, below the count or not); at an
+ *                      inspection those below the count; at a look none;
  *                      stations, event limit, a table's length, trays made (above K) or readings held (above V) outside
  *                      the limits above, or events above the event limit;
  *                      a table's length in the state unlike the length lent (not at standing, which is lent none);

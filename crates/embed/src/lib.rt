@@ -1,5 +1,5 @@
 // The part as C links it (include/tray_store.h): numbers and lent words in, a number and answer words out. The parameters
-// are named as the header names them. Whatever the words hold, no call asks anything of them.
+// are named as the header names them. Whatever the words hold, no call asks anything of them, and each tests those that it uses.
 ghost use mathlib.Core.Path.{_≡_};
 ghost use mathlib.Core.List.{[], _∷_};
 ghost use Rattle.model.specs.Layout.{limits};
@@ -131,7 +131,7 @@ pub extern "C" fn tray_start_get(
     tell_start(outcome, tick)
 }
 
-// Its time is bounded whatever the store holds, and it tests only the words that it uses.
+// Its time is bounded whatever the store holds.
 #[no_mangle]
 pub extern "C" fn tray_step(
     state: &mut [u32],
