@@ -65,6 +65,7 @@ knownHead w =
 unfoldable pub isStateBelow : List ℕ → (n : ℕ) → Bool
 isStateBelow w n = knownHead w && allKnown n (drop (sizes .head) w)
 
+-- and so are all eight
 abbrev pub isState : List ℕ → Bool
 isState w = isStateBelow w (limits .processes)
 
@@ -77,7 +78,7 @@ startOf i = sizes .head + sizes .process * i
 abbrev pub part : List ℕ → ℕ → List ℕ
 part w i = take (sizes .process) (drop (startOf i) w)
 
--- the head and process i are a state's: no more is read at a start or a step of it
+-- the head and process i are a state's: no more is read at a start, a step or a standing of it
 unfoldable pub isStateAt : List ℕ → ℕ → Bool
 isStateAt w i = knownHead w && knownProcess (part w i)
 

@@ -57,6 +57,7 @@ pub record StartIn : Type 0 where
 abbrev pub startedIn : Starting → (words : List ℕ) → StartIn
 startedIn o w = record { outcome = o; words = w }
 
+-- A refusal "changes no lent word": a state that was not changed is written as it stands (layout/proofs/Written `written-same`).
 abbrev pub startWritten : (words : List ℕ) → ℕ → StartResult → StartIn
 startWritten w i r = startedIn (r .outcome) (written w i (r .state))
 
@@ -115,11 +116,11 @@ stepIn w nodes versions tally i =
 unfoldable pub lookIn : (words nodes versions : List ℕ) (key back : ℕ) → Looking
 lookIn w nodes versions k back = if knownHead w then lookOf (stateFrom w) nodes versions k back else Looking.Refused Corrupt
 
--- an inspection the processes below the count, which is to be idle
+-- an inspection also the processes below the count, which are to be idle
 unfoldable pub inspectIn : (words nodes versions : List ℕ) → Inspecting
 inspectIn w nodes versions =
     if isStateBelow w (stateFrom w .processes) then inspectOf (stateFrom w) nodes versions else Inspecting.Refused Corrupt
 
--- a standing the process asked
+-- a standing also the process asked
 unfoldable pub statusIn : (words : List ℕ) (process : ℕ) → Status
 statusIn w i = if isStateAt w i then statusOf (stateFrom w) i else Status.Refused Corrupt

@@ -28,7 +28,8 @@ all-known-requires c κs = (long (c .before .before), omega arith)
 returns-2 : tie.Need-returns-2
 returns-2 c =
     let w = c .before .before .before .before .before .before .args .words .now in
-    c .all-known .ensures ∙ by-all w _ _ (c .before .before .before .before .is-head .ensures) (not-false _ (c .before .before .before .if1 .left)) (omega arith)
+    c .all-known .ensures
+    ∙ by-all w _ _ (c .before .before .before .before .is-head .ensures) (not-false _ (c .before .before .before .if1 .left)) (omega arith)
     ∙ ap (isStateBelow w) (count-at w)
 
 all-known-requires-2 : tie.Need-all-known-requires-2
@@ -37,7 +38,8 @@ all-known-requires-2 c κs = (long (c .before .before), omega arith)
 returns-3 : tie.Need-returns-3
 returns-3 c =
     let w = c .before .before .before .before .before .before .args .words .now in
-    c .all-known2 .ensures ∙ by-first w _ _ (c .before .before .before .before .is-head .ensures) (not-false _ (c .before .before .before .if1 .left))
+    c .all-known2 .ensures
+    ∙ by-first w _ _ (c .before .before .before .before .is-head .ensures) (not-false _ (c .before .before .before .if1 .left))
     ∙ ap (isStateBelow w) (count-at w)
 
 pub is-state-below-count-spec : {M : Type 1} → statement M

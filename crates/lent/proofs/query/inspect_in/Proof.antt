@@ -23,7 +23,10 @@ inspect-requires c κs = search needs
 returns-2 : tie.Need-returns-2
 unfolding inspectIn
 returns-2 c =
-    simp (sym (c .before .before .before .is-state-below-count .ensures) ∙ not-false _ (c .before .before .if1 .left), ← c .before .state-in .ensures) (c .inspect .ensures)
+    simp (
+      sym (c .before .before .before .is-state-below-count .ensures) ∙ not-false _ (c .before .before .if1 .left),
+      ← c .before .state-in .ensures,
+    ) (c .inspect .ensures)
 
 pub inspect-in-spec : {M : Type 1} → statement M
 inspect-in-spec =

@@ -61,14 +61,16 @@ enum-known-permit c = search needs
 returns-2 : tie.Need-returns-2
 returns-2 c =
     let a = c .before .before .before .before .before .before .before .before .before .before .before .args in
-    c .look-granted .ensures ∙ ap (λ n. lookBy Granted (memory (a .nodes .now) (a .versions .now) n) (a .key) (a .back)) (c .before .counts-in .ensures)
+    c .look-granted .ensures
+    ∙ ap (λ n. lookBy Granted (memory (a .nodes .now) (a .versions .now) n) (a .key) (a .back)) (c .before .counts-in .ensures)
     ∙ look-by _ _ _ _ _ Granted (known (c .before .before .before .before .before .before))
     (sym (permit-is (c .before .before .before .before)) ∙ c .before .before .enum-told .given .1)
 
 returns-3 : tie.Need-returns-3
 unfolding lookBy
 returns-3 c =
-    look-by _ _ _ _ _ (Denied _) (known (c .before .before .before .before .before)) (sym (permit-is (c .before .before .before)) ∙ c .before .permit .given .1)
+    look-by _ _ _ _ _ (Denied _) (known (c .before .before .before .before .before))
+    (sym (permit-is (c .before .before .before)) ∙ c .before .permit .given .1)
 
 pub look-in-spec : {M : Type 1} → statement M
 look-in-spec =

@@ -86,14 +86,16 @@ standing-requires c κs = search needs
 returns-2 : tie.Need-returns-2
 unfolding statusBy
 returns-2 c =
-    status-by _ _ (Denied _) (known (c .before .before .before .before .before)) (sym (permit-is (c .before .before .before)) ∙ c .before .permit .given .1)
+    status-by _ _ (Denied _) (known (c .before .before .before .before .before))
+    (sym (permit-is (c .before .before .before)) ∙ c .before .permit .given .1)
 
 returns-3 : tie.Need-returns-3
 unfolding statusBy
 returns-3 c =
     let e = c .before .before .before in
     let a = c .before .before .before .before .before .before .before .before .before .before .args in
-    let found = c .before .process-in .ensures ∙ ap processFrom (part-is (a .words .now) (startOf (a .process))) ∙ sym (process-at (a .words .now) (a .process) (few e)) in
+    let found = c .before .process-in .ensures ∙ ap processFrom (part-is (a .words .now) (startOf (a .process)))
+    ∙ sym (process-at (a .words .now) (a .process) (few e)) in
     c .standing .ensures ∙ ap (λ p. standing (p .call .kind) p) found
     ∙ status-by _ _ Granted (known (e .before .before .before .before)) (sym (permit-is (e .before .before)) ∙ e .enum-told .given .1)
 
