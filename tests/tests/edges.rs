@@ -2,7 +2,9 @@
 //! are skipped with a note.
 
 use std::fs::File;
-use std::io::Write;
+use std::io::{Read, Write};
+use std::os::fd::OwnedFd;
+use std::os::unix::net::UnixStream;
 use std::process::{Child, Command, Stdio};
 use std::thread;
 use std::time::{Duration, Instant};
@@ -26,8 +28,8 @@ fn feed(child: &mut Child, sheet: &[u8]) {
     thread::spawn(move || drop(stdin.write_all(&sheet)));
 }
 
-/// Waits for the program; fails, and ends it, where it hangs.
-fn ends(mut child: Child) {
+/// Waits for the program and answers what it says on standard error, if that is piped; fails, and ends it, where it hangs.
+fn ends(mut child: Child) -> String {
     let end = Instant::now() + Duration::from_secs(60);
     while child.try_wait().unwrap().is_none() {
         if Instant::now() > end {
@@ -36,6 +38,11 @@ fn ends(mut child: Child) {
         }
         thread::sleep(Duration::from_millis(1));
     }
+    let mut said = String::new();
+    if let Some(mut stderr) = child.stderr.take() {
+        stderr.read_to_string(&mut said).unwrap();
+    }
+    said
 }
 
 /// Starts the program through a shell that first does this.
@@ -43,6 +50,11 @@ fn after(preparation: &str, path: &str) -> Command {
     let mut command = Command::new("sh");
     command.args(["-c", &format!("{preparation} exec \"$0\""), path]);
     command
+}
+
+/// Whether the program says this, and nothing else.
+fn says(child: Child, call: &str, error: &str) {
+    assert_eq!(ends(child), format!("sheet: {call}: {error}\n"));
 }
 
 #[test]
@@ -56,29 +68,78 @@ fn empty_sheet_prints_nothing() {
 fn closed_output_ends_the_program() {
     let Some(path) = program() else { return };
     let sheet = generate::long_sheet(1, 200_000);
-    for preparation in ["", "trap '' PIPE;"] {
-        let mut child = after(preparation, &path).stdin(Stdio::piped()).stdout(Stdio::piped()).spawn().unwrap();
+    for (preparation, said) in [("", ""), ("trap '' PIPE;", "sheet: standard output: Broken pipe\n")] {
+        let mut command = after(preparation, &path);
+        let mut child = command.stdin(Stdio::piped()).stdout(Stdio::piped()).stderr(Stdio::piped()).spawn().unwrap();
         drop(child.stdout.take());
         feed(&mut child, &sheet);
-        ends(child);
+        assert_eq!(ends(child), said);
     }
 }
 
 #[test]
-fn full_device_ends_the_program() {
+fn full_device_is_told() {
     let Some(path) = program() else { return };
     let full = File::options().write(true).open("/dev/full").unwrap();
-    let mut child = Command::new(path).stdin(Stdio::piped()).stdout(full).spawn().unwrap();
+    let mut child = Command::new(path).stdin(Stdio::piped()).stdout(full).stderr(Stdio::piped()).spawn().unwrap();
     feed(&mut child, &generate::long_sheet(2, 200_000));
-    ends(child);
+    says(child, "standard output", "No space left on device");
 }
 
+/// A folder, and no input at all.
 #[test]
-fn unreadable_input_ends_the_program() {
+fn unreadable_input_is_told() {
     let Some(path) = program() else { return };
     let folder = File::open("/").unwrap();
-    ends(Command::new(&path).stdin(folder).stdout(Stdio::null()).spawn().unwrap());
-    ends(after("exec <&-;", &path).stdout(Stdio::null()).spawn().unwrap());
+    let child = Command::new(&path).stdin(folder).stdout(Stdio::null()).stderr(Stdio::piped()).spawn().unwrap();
+    says(child, "standard input", "Is a directory");
+    let child = after("exec <&-;", &path).stdout(Stdio::null()).stderr(Stdio::piped()).spawn().unwrap();
+    says(child, "standard input", "Bad file descriptor");
+}
+
+/// The bytes come late and in two parts, and the lines are read late: a descriptor that does not wait is not an end.
+#[test]
+fn descriptors_that_do_not_wait_are_waited_for() {
+    let Some(path) = program() else { return };
+    let sheet = generate::long_sheet(4, 50_000);
+    let due = sheet::run(&sheet);
+    let (mut writer, stdin) = UnixStream::pair().unwrap();
+    let (mut reader, stdout) = UnixStream::pair().unwrap();
+    stdin.set_nonblocking(true).unwrap();
+    stdout.set_nonblocking(true).unwrap();
+    let (stdin, stdout) = (OwnedFd::from(stdin), OwnedFd::from(stdout));
+    let child = Command::new(path).stdin(stdin).stdout(stdout).stderr(Stdio::piped()).spawn().unwrap();
+    thread::spawn(move || {
+        let (first, second) = sheet.split_at(1_001);
+        for part in [first, second] {
+            thread::sleep(Duration::from_millis(20));
+            writer.write_all(part).unwrap();
+        }
+    });
+    thread::sleep(Duration::from_millis(100));
+    let mut printed = Vec::new();
+    reader.read_to_end(&mut printed).unwrap();
+    assert_eq!(ends(child), "");
+    assert_eq!(difference(&due, &printed), None);
+}
+
+/// Every second call is interrupted, and no write takes all that it is given (tests/interrupted.c).
+#[test]
+fn interrupted_calls_are_made_again() {
+    let Some(path) = program() else { return };
+    let shim = std::env::temp_dir().join(format!("interrupted-{}.so", std::process::id()));
+    let source = concat!(env!("CARGO_MANIFEST_DIR"), "/tests/interrupted.c");
+    let compiler = std::env::var("CC").unwrap_or("cc".to_string());
+    assert!(Command::new(compiler).args(["-shared", "-fPIC", "-o"]).args([shim.as_os_str(), source.as_ref()]).status().unwrap().success());
+    let sheet = generate::long_sheet(5, 50_000);
+    let file = std::env::temp_dir().join(format!("interrupted-{}.sheet", std::process::id()));
+    std::fs::write(&file, &sheet).unwrap();
+    let output = Command::new(path).env("LD_PRELOAD", &shim).stdin(File::open(&file).unwrap()).output().unwrap();
+    std::fs::remove_file(&shim).unwrap();
+    std::fs::remove_file(&file).unwrap();
+    let (printed, told) = (output.stdout, String::from_utf8(output.stderr).unwrap());
+    assert!(told.starts_with("interrupted: ") && !told.contains("sheet:"), "{told}");
+    assert_eq!(difference(&sheet::run(&sheet), &printed), None);
 }
 
 #[test]

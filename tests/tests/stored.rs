@@ -4,7 +4,8 @@ use std::fs;
 use std::path::PathBuf;
 use store_tests::{sheet, text};
 
-const EXAMPLES: [&str; 3] = ["printed", "two-stations", "bench"];
+/// The last one ends the run before its own end.
+const EXAMPLES: [&str; 4] = ["printed", "two-stations", "bench", "ending"];
 
 fn file(name: &str) -> PathBuf {
     PathBuf::from(env!("CARGO_MANIFEST_DIR")).join("..").join(name)

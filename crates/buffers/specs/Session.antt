@@ -78,9 +78,9 @@ buffers = record {
 -- ---- commands
 
 -- an opened store counts "From zero"; "A refused call [..] changes no word of the tables, the tally or the state."
-abbrev pub tallyAfter : Opening → (tally : List ℕ) → List ℕ
-tallyAfter Opening.Opened tally = replicate (length tally) 0
-tallyAfter (Opening.Refused r) tally = tally
+abbrev pub openedTally : Opening → (tally : List ℕ) → List ℕ
+openedTally Opening.Opened tally = replicate (length tally) 0
+openedTally (Opening.Refused r) tally = tally
 
 abbrev pub openedOn : Session → (keys versions processes limit : ℕ) → Opened → Done
 openedOn w k v p limit o = record {
@@ -88,7 +88,7 @@ openedOn w k v p limit o = record {
   session = session (o .result .state)
       (back (tableWords nodeWords k) (o .nodes) (w .nodes))
       (back (tableWords versionWords v) (o .versions) (w .versions))
-      (tallyAfter (o .result .outcome) (w .tally));
+      (openedTally (o .result .outcome) (w .tally));
 }
 
 -- "Each open replaces the store"

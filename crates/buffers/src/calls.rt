@@ -2,7 +2,7 @@
 ghost use mathlib.Core.Path.{_≡_};
 ghost use Rattle.model.specs.Requests.{put, get};
 ghost use Rattle.decoder.specs.declared.types.Command.the-variants.{Open, Step};
-ghost use Rattle.buffers.specs.Session.{session, done, tallyAfter, started, startOn, lookOn, inspectOn, callOn};
+ghost use Rattle.buffers.specs.Session.{session, done, openedTally, started, startOn, lookOn, inspectOn, callOn};
 use crate::lend::asked;
 use crate::lend::table_words;
 use crate::types::Performed;
@@ -26,7 +26,7 @@ use tables::fresh::clear;
 
 // A store that is opened counts from zero.
 fn clear_tally(outcome: Opening, tally: &mut [u32])
-    ensures { λ r. ⌜ now (tally .exit) ≡ tallyAfter outcome (now (tally .entry)) ⌝ }
+    ensures { λ r. ⌜ now (tally .exit) ≡ openedTally outcome (now (tally .entry)) ⌝ }
 {
     match outcome {
         Opening::Opened => clear(tally),

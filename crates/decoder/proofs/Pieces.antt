@@ -1,5 +1,5 @@
 -- Reading in pieces: what more bytes can change, and how many a caller must hold.
-use Prim.Native.Nat.{ℕ, zero, suc, _+_, _≤_, _<_, max}
+use Prim.Native.Nat.{ℕ, zero, suc, _+_, _≤_, _<_}
 use mathlib.Core.Path.{_≡_, refl, ap}
 use mathlib.Core.Bool.{Bool, true, false}
 use mathlib.Core.List.{List, [], _∷_, _++_}
@@ -9,12 +9,7 @@ use lib.ListN.{length, drop, length-append, length-drop}
 use lib.Seq.{take-append-le, drop-append-le}
 use borrow.Author.Tests.{le-ltb, ltb-true, ltb-false}
 use Rattle.decoder.specs.Types.{Command, Decoded, Whole, Unknown, Short, End}
-use Rattle.decoder.specs.Commands.{Form, Opcode, opcodes, total, operand, commandWith, formFrom, codeFrom, commandFrom}
-
--- the most bytes that operands take
-abbrev pub widest : List Opcode → ℕ
-widest [] = 0
-widest (o ∷ os) = max (total (o .form .widths)) (widest os)
+use Rattle.decoder.specs.Commands.{Form, Opcode, opcodes, total, widest, longestCommand, operand, commandWith, formFrom, codeFrom, commandFrom}
 
 -- What holds of an unknown byte and of each form holds of every byte; of two lists of bytes behind it, too.
 code-cases : (P : Decoded → Decoded → Type 0) (os : List Opcode) (code : ℕ) (xs zs : List ℕ) → P Unknown Unknown
@@ -93,12 +88,12 @@ form-short f xs = by (ltb (length xs) (total (f .widths))) refl
     by true e h = ltb-true (length xs) (total (f .widths)) e
     by false e h = let w : Whole (commandWith f xs) (1 + total (f .widths)) ≡ Short = simp e at h in let q : _≡_ {A = ℕ} 0 1 = cc in omega arith
 
--- the longest command has 20 bytes: whoever holds as many is never told that they are too few
-pub short-below : (xs : List ℕ) → commandFrom xs ≡ Short → length xs < 20
+-- whoever holds as many bytes as the longest command has is never told that they are too few
+pub short-below : (xs : List ℕ) → commandFrom xs ≡ Short → length xs < longestCommand
 unfolding commandFrom
 short-below [] h = let q : _≡_ {A = ℕ} 0 1 = cc in omega arith
 short-below (code ∷ xs) h =
-    code-cases (λ d e. d ≡ Short → suc (length xs) < 20) opcodes code xs xs
+    code-cases (λ d e. d ≡ Short → suc (length xs) < longestCommand) opcodes code xs xs
     (λ e. let q : _≡_ {A = ℕ} 0 1 = cc in omega arith)
     (λ f l e. let few = form-short f xs e in omega arith)
     h

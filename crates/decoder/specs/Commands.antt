@@ -1,5 +1,5 @@
 -- Document 01, "Sheet program": what the bytes of a command mean.
-use Prim.Native.Nat.{ℕ, zero, suc, _+_, _*_, _≤_}
+use Prim.Native.Nat.{ℕ, zero, suc, _+_, _*_, _≤_, max}
 use mathlib.Core.List.{List, [], _∷_}
 use lib.Dec.{eqb, ltb}
 use lib.ListN.{length, take, drop}
@@ -65,6 +65,15 @@ opcodes =
 abbrev pub total : (widths : List ℕ) → ℕ
 total [] = 0
 total (w ∷ widths) = w + total widths
+
+-- the most bytes that operands take
+abbrev pub widest : List Opcode → ℕ
+widest [] = 0
+widest (o ∷ os) = max (total (o .form .widths)) (widest os)
+
+-- and with them a command: 20
+abbrev pub longestCommand : ℕ
+longestCommand = 1 + widest opcodes
 
 -- operand i
 abbrev pub operand : (widths bytes : List ℕ) → ℕ → ℕ

@@ -1,4 +1,4 @@
-pub mod Whole
+pub mod Tries
 pub mod Playing
 pub mod Sheets
 pub mod Printed

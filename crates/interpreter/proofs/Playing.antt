@@ -16,7 +16,8 @@ module _ (bytes : List ℕ) (ended : Bool) (p q : Playing) (e : q ≡ playOne by
   unfolding playFor
   made n g = let h = ap (λ (x : Playing). goesOn (x .needs)) (sym e) ∙ g in simp h (ap (playFor n bytes ended) e)
 
-  pub again : (left : ℕ) → 0 < left → goesOn (q .needs) ≡ true → playFor (suc (left - 1)) bytes ended q ≡ playFor (suc left) bytes ended p
+  pub again : (left : ℕ) → 0 < left → goesOn (q .needs) ≡ true
+      → playFor (suc (left - 1)) bytes ended q ≡ playFor (suc left) bytes ended p
   again left h g = let e : suc (left - 1) ≡ left = omega (arith, h) in rw e (made left g)
 
   pub stops : (left : ℕ) → goesOn (q .needs) ≡ false → q ≡ playFor (suc left) bytes ended p

@@ -44,7 +44,8 @@ module _ (bytes : List ℕ) (start : ℕ) (l : Line) (fits : leb (start + room) 
       let front = length-take-le start bytes (omega (arith, within)) in
       simp fits
       (ap (take (start + length (lineOf l))) (sets-eq (lineOf l) bytes start within)
-      ∙ take-at (take start bytes ++ lineOf l) _ _ (length-append (take start bytes) (lineOf l) ∙ ap (λ n. n + length (lineOf l)) front))
+      ∙ take-at (take start bytes ++ lineOf l) _ _
+      (length-append (take start bytes) (lineOf l) ∙ ap (λ n. n + length (lineOf l)) front))
 
 -- ---- one try
 
@@ -90,7 +91,8 @@ module _ (bytes more : List ℕ) where
           (ap text (sheet-laws .command (p .session) _ c n (still _ more (Whole c n) refl e))
           ∙ ap (λ (l : List ℕ). lineOf (d .line) ++ text (linesFrom (d .session) (scriptOf l))) behind)
 
-      ending : (r : Refusal) → linesFrom (p .session) (scriptOf (drop (p .read) bytes ++ more)) ≡ Refused r ∷ [] → Keeps p (endedBy p r)
+      ending : (r : Refusal) → linesFrom (p .session) (scriptOf (drop (p .read) bytes ++ more)) ≡ Refused r ∷ []
+          → Keeps p (endedBy p r)
       unfolding text
       ending r e = prints (endedBy p r) (Refused r) fits refl (ap text e)
 
@@ -110,11 +112,13 @@ module _ (bytes more : List ℕ) (ended : Bool) (seen : ended ≡ true → more 
   all-seen at t = ap (λ (l : List ℕ). drop at bytes ++ l) (seen t) ∙ append-nil (drop at bytes)
 
   module _ (p : Playing) (fits : leb (p .page .next + room) (length (p .page .bytes)) ≡ true) where
-    by-decoded : (d : Decoded) → commandFrom (drop (p .read) bytes) ≡ d → (t : Bool) → ended ≡ t → Keeps bytes more p (playNext p (restBy t d))
+    by-decoded : (d : Decoded) → commandFrom (drop (p .read) bytes) ≡ d → (t : Bool) → ended ≡ t
+        → Keeps bytes more p (playNext p (restBy t d))
     unfolding restBy performedAll
     by-decoded (Whole c n) e t f = command bytes more p fits c n e
     by-decoded Unknown e t f = ending bytes more p fits UnknownCommand (sheet-laws .unknown (p .session) _ more e)
-    by-decoded Short e true f = ending bytes more p fits CutShort (sheet-laws .cut-short (p .session) _ (ap commandFrom (all-seen (p .read) f) ∙ e))
+    by-decoded Short e true f =
+        ending bytes more p fits CutShort (sheet-laws .cut-short (p .session) _ (ap commandFrom (all-seen (p .read) f) ∙ e))
     by-decoded Short e false f = stays bytes more p Needs.Bytes refl
     by-decoded End e true f = nothing bytes more p fits (lines-by _ End (ap commandFrom (all-seen (p .read) f) ∙ e) (p .session))
     by-decoded End e false f = stays bytes more p Needs.Bytes refl

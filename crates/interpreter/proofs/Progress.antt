@@ -1,7 +1,7 @@
 -- Where a run stands after its tries: it needs a page only where one is full, and bytes only where none of them is a command.
 use Prim.Native.Nat.{ℕ, zero, suc, _+_, _≤_, _<_}
 use mathlib.Core.Bool.{Bool, true, false, true≢false}
-use mathlib.Core.List.{List, [], _∷_}
+use mathlib.Core.List.{List}
 use mathlib.Core.Path.{_≡_, refl, sym, ap, subst, _∙_}
 use native.Mathlib.Omega.{arith}
 use lib.Dec.{leb}
@@ -11,7 +11,7 @@ use Rattle.model.proofs.Tests.{by-eq}
 use Rattle.decoder.specs.declared.types.Command.{Command}
 use Rattle.decoder.specs.declared.types.Decoded.{Decoded}
 use Rattle.decoder.specs.declared.types.Decoded.the-variants.{Whole, Unknown, Short, End}
-use Rattle.decoder.specs.Commands.{commandFrom}
+use Rattle.decoder.specs.Commands.{longestCommand, commandFrom}
 use Rattle.decoder.proofs.Pieces.{whole-within, short-below, end-empty}
 use Rattle.ending.specs.Rest.{restBy, restOf}
 use Rattle.printer.specs.Lines.{room}
@@ -25,7 +25,7 @@ module _ (bytes : List ℕ) (ended : Bool) where
   abbrev Stands : (tries from : ℕ) → Needs → Playing → Type 0
   Stands tries from Needs.Nothing q = from + tries ≤ q .read
   Stands tries from Needs.Page q = length (q .page .bytes) < q .page .next + room
-  Stands tries from Needs.Bytes q = (ended ≡ false) × (length (drop (q .read) bytes) < 20)
+  Stands tries from Needs.Bytes q = (ended ≡ false) × (length (drop (q .read) bytes) < longestCommand)
   Stands tries from Needs.Over q = Unit {0}
 
   pub record Advances (tries : ℕ) (p q : Playing) : Type 0 where
@@ -46,7 +46,8 @@ module _ (bytes : List ℕ) (ended : Bool) where
           stands = omega (arith, w .0);
         }
 
-    by-decoded : (d : Decoded) → commandFrom (drop (p .read) bytes) ≡ d → (t : Bool) → ended ≡ t → Advances 1 p (playNext p (restBy t d))
+    by-decoded : (d : Decoded) → commandFrom (drop (p .read) bytes) ≡ d → (t : Bool) → ended ≡ t
+        → Advances 1 p (playNext p (restBy t d))
     unfolding restBy
     by-decoded (Whole c n) e t f = command c n e
     by-decoded Unknown e t f = record { read = omega arith; within = λ h. h; idle = λ z o. cc; stands = tt }
@@ -127,10 +128,10 @@ module _ (bytes : List ℕ) (ended : Bool) where
     all-advances = advances (length bytes) p
 
     -- more bytes are needed only where fewer are left than a command can have
-    pub few : q .needs ≡ Needs.Bytes → length (drop (q .read) bytes) < 20
+    pub few : q .needs ≡ Needs.Bytes → length (drop (q .read) bytes) < longestCommand
     few e = by (q .needs) e (all-advances .stands)
       where
-        by : (n : Needs) → n ≡ Needs.Bytes → Stands (suc (length bytes)) (p .read) n q → length (drop (q .read) bytes) < 20
+        by : (n : Needs) → n ≡ Needs.Bytes → Stands (suc (length bytes)) (p .read) n q → length (drop (q .read) bytes) < longestCommand
         by Needs.Nothing e s = absurd (true≢false (ap goesOn e))
         by Needs.Page e s = let z : _≡_ {A = ℕ} 0 1 = cc in absurd (omega (arith, z))
         by Needs.Bytes e s = s .1

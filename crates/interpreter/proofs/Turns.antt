@@ -1,6 +1,6 @@
 -- A sheet in turns: each turn keeps what is printed and due together, and at the end of the sheet it comes nearer to it.
-use Prim.Native.Nat.{ℕ, zero, suc, _+_, _≤_, _<_}
-use mathlib.Core.Bool.{Bool, true, false, _&&_, and-eq-true-iff, true≢false}
+use Prim.Native.Nat.{ℕ, suc, _+_, _≤_, _<_}
+use mathlib.Core.Bool.{Bool, true, false, _&&_, and-eq-true-iff}
 use mathlib.Core.List.{List, [], _∷_, _++_, append-assoc, append-nil}
 use mathlib.Core.Path.{_≡_, refl, sym, ap, _∙_}
 use native.Mathlib.Omega.{arith}
@@ -10,11 +10,11 @@ use lib.Seq.{take-nil, drop-nil}
 use borrow.Author.Tests.{eqb-true}
 use Rattle.model.specs.Choice.{if_then_else_}
 use Rattle.model.specs.Linearizability.{All}
-use Rattle.printer.specs.Lines.{room}
 use Rattle.interpreter.specs.declared.types.Needs.{Needs}
 use Rattle.interpreter.specs.Sheet.{scriptOf, linesFrom, sheetOf, text}
 use Rattle.interpreter.specs.Playing.{Playing, playOf}
-use Rattle.interpreter.specs.Turns.{Turn, Run, isOver, heldAt, unreadAt, endedAt, playedAt, printedOn, after, turnOf, runFrom, unplayed, Holds, due, Ready, InTurns}
+use Rattle.interpreter.specs.Turns.{Turn, Run, isOver, heldAt, unreadAt, endedAt, playedAt, printedOn, after, turnOf}
+use Rattle.interpreter.specs.Turns.{runFrom, unplayed, Holds, due, Ready, InTurns}
 use Rattle.interpreter.proofs.Printed.{Keeps, keeps}
 use Rattle.interpreter.proofs.Progress.{all-advances, few, moves}
 
@@ -81,7 +81,10 @@ module _ (r : Run) (t : Turn) (all : r .unread ≡ []) (ready : Ready t) where
   still-all = ap (drop (t .bytes)) all ∙ drop-nil (t .bytes)
 
   same-held : heldAt r t ≡ r .held
-  same-held = ap (λ (l : List ℕ). r .held ++ take (t .bytes) l) all ∙ ap (λ (l : List ℕ). r .held ++ l) (take-nil (t .bytes)) ∙ append-nil (r .held)
+  same-held =
+      ap (λ (l : List ℕ). r .held ++ take (t .bytes) l) all
+      ∙ ap (λ (l : List ℕ). r .held ++ l) (take-nil (t .bytes))
+      ∙ append-nil (r .held)
 
   at-end : endedAt r t ≡ true
   at-end = ap (λ (b : Bool). b && eqb (length (unreadAt r t)) 0) (ready .0) ∙ ap (λ (l : List ℕ). eqb (length l) 0) still-all

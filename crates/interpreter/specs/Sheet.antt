@@ -65,18 +65,23 @@ text (l ∷ lines) = lineOf l ++ text lines
 
 -- ---- what it comes to
 
--- The laws of a sheet, from any session on: how many commands there can be is no part of them.
+-- front holds whole commands and nothing else
+abbrev pub Complete : (front : List ℕ) → Type 0
+Complete front = scriptOf front .ending ≡ []
+
+-- How many commands there can be is no part of what a sheet prints.
 pub record SheetLaws : Type 0 where
-  -- "An empty sheet prints nothing."
-  pub empty : sheetOf [] ≡ []
-  -- commands from the front, each performed and printed
+  -- commands from the front, each performed and printed, from any session on
   pub command : (w : Session) (bytes : List ℕ) (c : Command) (n : ℕ) → commandFrom bytes ≡ Whole c n
       → let d = performOf w c in linesFrom w (scriptOf bytes) ≡ d .line ∷ linesFrom (d .session) (scriptOf (drop n bytes))
+  -- "An empty sheet prints nothing."
+  pub empty : sheetOf [] ≡ []
   -- "15 and 16 end the run, and come before 14": in any session, and whatever stands behind an unknown byte
   pub unknown : (w : Session) (bytes more : List ℕ) → commandFrom bytes ≡ Unknown
       → linesFrom w (scriptOf (bytes ++ more)) ≡ Refused UnknownCommand ∷ []
   pub cut-short : (w : Session) (bytes : List ℕ) → commandFrom bytes ≡ Short → linesFrom w (scriptOf bytes) ≡ Refused CutShort ∷ []
-  -- and what stands before them was printed as if nothing stood behind it
-  pub behind : (front bytes : List ℕ) → scriptOf front .ending ≡ []
-      → let a = scriptOf front in let b = scriptOf bytes in
-      scriptOf (front ++ bytes) ≡ record { commands = a .commands ++ b .commands; ending = b .ending }
+  -- of a whole sheet: what stands before them is printed as if it were all
+  pub unknown-ends : (front bytes more : List ℕ) → Complete front → commandFrom bytes ≡ Unknown
+      → sheetOf (front ++ (bytes ++ more)) ≡ sheetOf front ++ (Refused UnknownCommand ∷ [])
+  pub cut-short-ends : (front bytes : List ℕ) → Complete front → commandFrom bytes ≡ Short
+      → sheetOf (front ++ bytes) ≡ sheetOf front ++ (Refused CutShort ∷ [])

@@ -7,6 +7,7 @@ use lib.Dec.{eqb}
 use lib.ListN.{length, take, drop}
 use Rattle.model.specs.Choice.{if_then_else_}
 use Rattle.model.specs.Linearizability.{All}
+use Rattle.decoder.specs.Commands.{longestCommand}
 use Rattle.printer.specs.Lines.{Page, room}
 use Rattle.buffers.specs.Session.{Session}
 use Rattle.interpreter.specs.declared.types.Needs.{Needs}
@@ -106,4 +107,4 @@ pub record InTurns : Type 0 where
       → isOver (runFrom r turns .needs) ≡ true
   -- more bytes are needed only where fewer are left than the longest command has, so a buffer of as many has room for them
   pub few : (bytes : List ℕ) (ended : Bool) (p : Playing)
-      → let q = playOf bytes ended p in q .needs ≡ Needs.Bytes → length (drop (q .read) bytes) < 20
+      → let q = playOf bytes ended p in q .needs ≡ Needs.Bytes → length (drop (q .read) bytes) < longestCommand

@@ -1,20 +1,20 @@
 -- A page leaves the run with its bytes inside the buffer, and with room for more where it needs them.
-use Prim.Native.Nat.{ℕ, _+_, _-_, _≤_, _<_}
+use Prim.Native.Nat.{ℕ, _+_, _-_, _≤_}
 use mathlib.Core.List.{List}
 use mathlib.Core.Path.{_≡_, sym, ap, _∙_}
 use native.Mathlib.Omega.{arith}
 use lib.ListN.{length, take, drop, length-drop}
 use lib.Seq.{length-take-le, take-add, drop-at, drop-drop}
-use Rattle.interpreter.specs.declared.types.Needs.{Needs}
+use Rattle.decoder.specs.Commands.{longestCommand}
 use Rattle.interpreter.specs.declared.types.Played.{Played}
 use Rattle.interpreter.specs.Playing.{Playing, playing, Within}
 use Rattle.interpreter.proofs.Turns.{in-turns}
 use Rattle.sheet.specs.declared.types.Run.{Run}
-use Rattle.sheet.specs.Runs.{heldIn, InBuffer, Ready, pageOf, done, pageDone}
+use Rattle.sheet.specs.Runs.{heldIn, InBuffer, Ready, pageOf, paged, done, pageDone}
 
 -- the run after a page
 abbrev after : Run → Played → Run
-after r q = record { state = q .state; from = r .from + q .read; end = r .end; ended = r .ended; needs = q .needs }
+after r q = record { state = q .state; from = r .from + q .read; end = r .end; ended = r .ended; next = q .next; needs = q .needs }
 
 module _ (r : Run) (bytes : List ℕ) (inside : InBuffer r (length bytes)) where
   held-long : length (heldIn r bytes) ≡ r .end - r .from
@@ -25,9 +25,10 @@ module _ (r : Run) (bytes : List ℕ) (inside : InBuffer r (length bytes)) where
   pub reach : (q : Played) (out : List ℕ) → Within q (heldIn r bytes) out → r .from + q .read ≤ r .end
   reach q out w = omega (arith, held-long, w .read, inside .from)
 
-  -- what is held after it
-  still-held : (n : ℕ) → r .from + n ≤ r .end → take (r .end - (r .from + n)) (drop (r .from + n) bytes) ≡ drop n (heldIn r bytes)
-  still-held n h =
+  -- what is held after it, as at a turn of `interpreter`
+  pub still-held : (p : Playing) → r .from + p .read ≤ r .end → heldIn (paged r p) bytes ≡ drop (p .read) (heldIn r bytes)
+  still-held p h =
+      let n = p .read in
       let l = drop (r .from) bytes in
       let left = r .end - (r .from + n) in
       let all : r .end - r .from ≡ n + left = omega (arith, h) in
@@ -38,29 +39,23 @@ module _ (r : Run) (bytes : List ℕ) (inside : InBuffer r (length bytes)) where
 
 module _ (r : Run) (bytes nodes versions tally out nodes′ versions′ tally′ out′ : List ℕ) (q : Played)
     (e : playing q nodes′ versions′ tally′ out′ ≡ pageOf r bytes nodes versions tally out) where
-  as-paged : done (record { run = after r q; next = q .next }) nodes′ versions′ tally′ out′
+  as-paged : done (after r q) nodes′ versions′ tally′ out′
       ≡ pageDone r (pageOf r bytes nodes versions tally out)
   unfolding pageDone
   as-paged = ap (pageDone r) e
 
   module _ (inside : InBuffer r (length bytes)) (w : Within q (heldIn r bytes) out) where
-    held-after : heldIn (after r q) bytes ≡ drop (pageOf r bytes nodes versions tally out .read) (heldIn r bytes)
-    held-after =
-        still-held r bytes inside (q .read) (reach r bytes inside q out w)
-        ∙ ap (λ n. drop n (heldIn r bytes)) (ap (λ (p : Playing). p .read) e)
-
-    ready : 20 ≤ length bytes → Ready (after r q) (length bytes)
+    ready : longestCommand ≤ length bytes → Ready (after r q) (length bytes)
     ready long = record {
       inside = record { from = reach r bytes inside q out w; end = inside .end };
       room = λ n.
           (let few = in-turns .few (heldIn r bytes) (r .ended) _ (ap (λ (p : Playing). p .needs) (sym e) ∙ n) in
-          let end = reach r bytes inside q out w in
           let left = length-drop (pageOf r bytes nodes versions tally out .read) (heldIn r bytes) in
+          let end = reach r bytes inside q out w in
           omega (arith, few, left, held-long r bytes inside, ap (λ (p : Playing). p .read) e, end, long));
     }
 
-    pub page : 20 ≤ length bytes
-        → (done (record { run = after r q; next = q .next }) nodes′ versions′ tally′ out′ ≡ pageDone r (pageOf r bytes nodes versions tally out))
-        × (heldIn (after r q) bytes ≡ drop (pageOf r bytes nodes versions tally out .read) (heldIn r bytes))
+    pub page : longestCommand ≤ length bytes
+        → (done (after r q) nodes′ versions′ tally′ out′ ≡ pageDone r (pageOf r bytes nodes versions tally out))
         × Ready (after r q) (length bytes)
-    page long = (as-paged, held-after, ready long)
+    page long = (as-paged, ready long)

@@ -4,7 +4,7 @@ ghost use mathlib.Core.Path.{_≡_};
 ghost use lib.ListN.{length, take, drop};
 ghost use lib.Seq.{paste};
 ghost use Rattle.interpreter.specs.declared.types.Needs.{Needs};
-ghost use Rattle.sheet.specs.Runs.{heldIn, Ready, InRoom, tookOf};
+ghost use Rattle.sheet.specs.Runs.{heldIn, Ready, Supplied, InRoom, tookOf};
 use crate::retry::read;
 use crate::types::Input;
 use crate::types::Run;
@@ -34,6 +34,7 @@ fn took(state: State, bytes: &[u8], held: usize, input: Input) -> Run
     requires { ⌜ InRoom (length (now bytes) - held) input ⌝ }
     ensures { λ r. ⌜ r ≡ tookOf state held input ⌝ }
     ensures { λ r. ⌜ Ready r (length (now (bytes .entry))) ⌝ }
+    ensures { λ r. ⌜ Supplied r ⌝ }
 {
     match input {
         Input::Bytes(count) => Run {
@@ -41,6 +42,7 @@ fn took(state: State, bytes: &[u8], held: usize, input: Input) -> Run
             from: 0,
             end: held + count,
             ended: false,
+            next: 0,
             needs: Needs::Nothing,
         },
         Input::End => Run {
@@ -48,6 +50,7 @@ fn took(state: State, bytes: &[u8], held: usize, input: Input) -> Run
             from: 0,
             end: held,
             ended: true,
+            next: 0,
             needs: Needs::Nothing,
         },
         Input::Failed => Run {
@@ -55,6 +58,7 @@ fn took(state: State, bytes: &[u8], held: usize, input: Input) -> Run
             from: 0,
             end: held,
             ended: false,
+            next: 0,
             needs: Needs::Over,
         },
     }
@@ -65,6 +69,7 @@ pub fn refill(r: Run, bytes: &mut [u8]) -> Run
     requires { ⌜ Ready r (length (now bytes)) ⌝ }
     requires { ⌜ r .needs ≡ Needs.Bytes ⌝ }
     ensures { λ q. ⌜ Ready q (length (now (bytes .entry))) ⌝ }
+    ensures { λ q. ⌜ Supplied q ⌝ }
     ensures { λ q. ⌜ take (length (heldIn r (now (bytes .entry)))) (heldIn q (now (bytes .exit))) ≡ heldIn r (now (bytes .entry)) ⌝ }
 {
     let state = r.state;

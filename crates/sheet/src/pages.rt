@@ -1,13 +1,13 @@
 // Turns: what is held is played, a page of lines at a time, and the page is written.
 ghost use Prim.Native.Nat.{ℕ, _≤_};
 ghost use mathlib.Core.Path.{_≡_};
-ghost use lib.ListN.{length, drop};
+ghost use lib.ListN.{length};
+ghost use Rattle.decoder.specs.Commands.{longestCommand};
 ghost use Rattle.interpreter.specs.declared.types.Needs.{Needs};
 ghost use Rattle.interpreter.specs.Turns.{isOver};
-ghost use Rattle.sheet.specs.Runs.{heldIn, InBuffer, Ready, pageOf, done, pageDone};
+ghost use Rattle.sheet.specs.Runs.{InBuffer, Ready, Supplied, firstRun, pageOf, done, pageDone};
 use crate::input::refill;
 use crate::retry::write;
-use crate::types::Paged;
 use crate::types::Run;
 use interpreter::play::play;
 use interpreter::types::Needs;
@@ -22,17 +22,14 @@ fn play_page(
     versions: &mut [u32],
     tally: &mut [u32],
     out: &mut [u8],
-) -> Paged
+) -> Run
     requires { ⌜ InBuffer r (length (now bytes)) ⌝ }
-    requires { ⌜ 20 ≤ length (now bytes) ⌝ }
-    ensures { λ p. ⌜ done p (now (nodes .exit)) (now (versions .exit)) (now (tally .exit)) (now (out .exit))
+    requires { ⌜ longestCommand ≤ length (now bytes) ⌝ }
+    ensures { λ q. ⌜ done q (now (nodes .exit)) (now (versions .exit)) (now (tally .exit)) (now (out .exit))
         ≡ pageDone r
         (pageOf r (now (bytes .entry)) (now (nodes .entry)) (now (versions .entry)) (now (tally .entry)) (now (out .entry))) ⌝ }
-    ensures { λ p. ⌜ heldIn (p .run) (now (bytes .entry)) ≡ drop
-        (pageOf r (now (bytes .entry)) (now (nodes .entry)) (now (versions .entry)) (now (tally .entry)) (now (out .entry)) .read)
-        (heldIn r (now (bytes .entry))) ⌝ }
-    ensures { λ p. ⌜ Ready (p .run) (length (now (bytes .entry))) ⌝ }
-    ensures { λ p. ⌜ p .next ≤ length (now (out .entry)) ⌝ }
+    ensures { λ q. ⌜ Ready q (length (now (bytes .entry))) ⌝ }
+    ensures { λ q. ⌜ q .next ≤ length (now (out .entry)) ⌝ }
 {
     let state = r.state;
     let start = Played {
@@ -43,7 +40,7 @@ fn play_page(
     };
     let from = r.from;
     let end = r.end;
-    let q = play(
+    let p = play(
         start,
         &bytes[from..end],
         r.ended,
@@ -52,16 +49,16 @@ fn play_page(
         tally,
         out,
     );
-    let after = q.state;
-    let needs = q.needs;
-    let run = Run {
+    let after = p.state;
+    let needs = p.needs;
+    Run {
         state: after,
-        from: from + q.read,
+        from: from + p.read,
         end,
         ended: r.ended,
+        next: p.next,
         needs,
-    };
-    Paged { run, next: q.next }
+    }
 }
 
 // A run that goes no further.
@@ -75,6 +72,7 @@ fn stop(r: Run) -> Run
         from: r.from,
         end: r.end,
         ended: r.ended,
+        next: r.next,
         needs: Needs::Over,
     }
 }
@@ -83,6 +81,7 @@ fn stop(r: Run) -> Run
 fn supply(r: Run, bytes: &mut [u8]) -> Run
     requires { ⌜ Ready r (length (now bytes)) ⌝ }
     ensures { λ q. ⌜ Ready q (length (now (bytes .entry))) ⌝ }
+    ensures { λ q. ⌜ Supplied q ⌝ }
 {
     let needs = r.needs;
     match needs {
@@ -114,16 +113,30 @@ fn turn(
     out: &mut [u8],
 ) -> Run
     requires { ⌜ InBuffer r (length (now bytes)) ⌝ }
-    requires { ⌜ 20 ≤ length (now bytes) ⌝ }
+    requires { ⌜ Supplied r ⌝ }
+    requires { ⌜ longestCommand ≤ length (now bytes) ⌝ }
     ensures { λ q. ⌜ Ready q (length (now (bytes .entry))) ⌝ }
 {
-    let p = play_page(r, bytes, nodes, versions, tally, out);
-    let next = p.next;
-    let run = p.run;
+    let q = play_page(r, bytes, nodes, versions, tally, out);
+    let next = q.next;
     if !write(&out[..next]) {
-        return stop(run);
+        return stop(q);
     }
-    run
+    q
+}
+
+// Nothing is read yet.
+fn first() -> Run
+    ensures { λ r. ⌜ r ≡ firstRun ⌝ }
+{
+    Run {
+        state: State::closed(),
+        from: 0,
+        end: 0,
+        ended: false,
+        next: 0,
+        needs: Needs::Bytes,
+    }
 }
 
 // Turn after turn, until the run is over. It counts its turns down from a number that no run uses up.
@@ -134,16 +147,10 @@ pub fn run(
     tally: &mut [u32],
     out: &mut [u8],
 ) -> Run
-    requires { ⌜ 20 ≤ length (now bytes) ⌝ }
+    requires { ⌜ longestCommand ≤ length (now bytes) ⌝ }
     ensures { λ r. ⌜ r .needs ≡ Needs.Over ⌝ }
 {
-    let mut at = Run {
-        state: State::closed(),
-        from: 0,
-        end: 0,
-        ended: false,
-        needs: Needs::Bytes,
-    };
+    let mut at = first();
     let mut turns = u64::MAX;
     while 0 < turns {
         at = supply(at, bytes);

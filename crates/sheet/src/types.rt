@@ -3,12 +3,13 @@ use interpreter::types::Needs;
 use model::types::State;
 
 // A run between two turns: the store's state, where the bytes that were read and not played begin and end, whether the input
-// has ended with them, and what the run needs.
+// has ended with them, where the lines of its page end, and what the run needs.
 pub struct Run {
     pub state: State,
     pub from: usize,
     pub end: usize,
     pub ended: bool,
+    pub next: usize,
     pub needs: Needs,
 }
 
@@ -17,10 +18,4 @@ pub enum Input {
     Bytes(usize),
     End,
     Failed,
-}
-
-// What a page leaves: the run, and where its lines end.
-pub struct Paged {
-    pub run: Run,
-    pub next: usize,
 }

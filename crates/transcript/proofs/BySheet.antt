@@ -9,7 +9,6 @@ use lib.ListN.{length, take, drop, replicate, length-replicate}
 use lib.Seq.{length-take-le, length-front, take-at}
 use Rattle.model.specs.Layout.{nodeWords, versionWords, freshNodes}
 use Rattle.model.specs.Requests.{Fitting, Operation, put, get}
-use Rattle.model.specs.State.{closedState}
 use Rattle.model.specs.Calls.{openDue, openBy, openOf, startBy, startOf, Store, Stepped, stepOf}
 use Rattle.model.specs.System.{Opens, viewOf}
 use Rattle.model.specs.ByValue.{withState, freshStore, Given, opensBy, byValue}
@@ -19,6 +18,7 @@ use Rattle.linearizability.proofs.Simulated.{Same, SameOpening, Simulates, simu
 use Rattle.linearizability.proofs.Linearized as by-value
 use Rattle.buffers.specs.Session.{Session, session, Done, lent, back, tableWords, buffers, openedOn, started, startedOn, steppedOn, openOn, callOn}
 use Rattle.executor.specs.Perform.{performOf}
+use Rattle.interpreter.specs.Sheet.{firstSession}
 use Rattle.buffers.proofs.Laws.{asked-permit}
 use Rattle.transcript.specs.Types.{Command, Open, Step, Look, Inspect, Call, Lengths, State, Permit, Granted, Denied, StartResult, Inspecting}
 use Rattle.transcript.specs.Meanings.{startMeant, stepMeant, lookMeant, inspectMeant}
@@ -247,23 +247,23 @@ module _ (w : Session) (l : BufferLengths w) (k v p limit : ℕ) where
 
 -- ---- the theorem
 
--- a sheet can ask for every lawful opening
-empty : Session
-empty = session closedState (replicate (buffers .nodes) 0) (replicate (buffers .versions) 0) (replicate (buffers .tally) 0)
+-- the first session has buffers of the lent lengths
+pub first-lengths : BufferLengths firstSession
+first-lengths = record {
+  nodes = length-replicate {A = ℕ} (buffers .nodes) 0;
+  versions = length-replicate {A = ℕ} (buffers .versions) 0;
+  tally = length-replicate {A = ℕ} (buffers .tally) 0;
+}
 
+-- a sheet can ask for every lawful opening
 asks : (f : Fitting) → openDue f ≡ Granted → (s : Asked) × (bySheet .fitting s ≡ f)
-unfolding empty
 asks f lawful =
     let h = granted-fits f lawful in
     let K = h .nodes .0 in
     let W = h .versions .0 in (
       record {
-        before = empty;
-        lengths = record {
-          nodes = length-replicate {A = ℕ} (buffers .nodes) 0;
-          versions = length-replicate {A = ℕ} (buffers .versions) 0;
-          tally = length-replicate {A = ℕ} (buffers .tally) 0;
-        };
+        before = firstSession;
+        lengths = first-lengths;
         keys = K;
         versions = W;
         processes = f .processes;

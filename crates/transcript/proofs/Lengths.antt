@@ -16,13 +16,12 @@ use Rattle.model.specs.Calls.{openPermit, openBy, openOf, Store, stepPermit, st
 use Rattle.model.proofs.Laws.{length-tally}
 use Rattle.model.proofs.Tests.{if-by}
 use Rattle.model.proofs.Words.{length-word, length-node, length-version}
-use Rattle.buffers.specs.Session.{Session, Done, lent, tableWords, openOn, callOn}
-use Rattle.executor.specs.Perform.{opens, performOf}
-use Rattle.transcript.specs.Types.{Command, Open, Put, Get, Step, Look, Inspect, Permit, Granted, Denied, Call, Cursor, Process}
+use Rattle.buffers.specs.Session.{Session, Done, lent, tableWords, openedTally, openOn, callOn}
+use Rattle.executor.specs.Perform.{opens, performOf, performedAll}
+use Rattle.transcript.specs.Types.{Command, Open, Put, Get, Step, Look, Inspect, Opening, Permit, Granted, Denied, Call, Cursor, Process}
 use Rattle.transcript.specs.Types.{Phase, Walk, Read, Seek, Lock, Check, Update, Make, Link, Release}
 use Rattle.transcript.specs.Types.{Ahead, Unused, Less, Equal, Past, Move}
 use Rattle.transcript.specs.BySheet.{BufferLengths}
-use Rattle.transcript.specs.Sheets.{performedAll}
 
 -- ---- a step
 
@@ -160,6 +159,10 @@ pub record SameLengths (w w′ : Session) : Type 0 where
 same : (w : Session) → SameLengths w w
 same w = record { nodes = refl; versions = refl; tally = refl }
 
+tally-long : (o : Opening) (tally : List ℕ) → length (openedTally o tally) ≡ length tally
+tally-long Opening.Opened tally = length-replicate (length tally) 0
+tally-long (Opening.Refused r) tally = refl
+
 call-keeps : (w : Session) (c : Command) → SameLengths w (callOn w c .session)
 unfolding callOn openOn
 call-keeps w (Open k v p limit) =
@@ -170,7 +173,7 @@ call-keeps w (Open k v p limit) =
     record {
       nodes = length-front (w .nodes) (o .nodes) n (l .0);
       versions = length-front (w .versions) (o .versions) m (l .1);
-      tally = length-replicate (length (w .tally)) 0;
+      tally = tally-long (o .result .outcome) (w .tally);
     }
 call-keeps w (Put i k v t draw) = record { nodes = refl; versions = refl; tally = refl }
 call-keeps w (Get i k) = record { nodes = refl; versions = refl; tally = refl }

@@ -13,15 +13,15 @@ use Rattle.model.specs.History.{Action, Observation, History, emptyHistory, Run
 use Rattle.model.specs.Linearizability.{Claim, EffectsStay}
 use Rattle.model.proofs.Tests.{if-by}
 use Rattle.buffers.specs.Session.{Session, Done, openedOn, openOn, callOn}
-use Rattle.executor.specs.Perform.{opens, performOf}
+use Rattle.executor.specs.Perform.{opens, performOf, AllDone, performedAll}
 use Rattle.transcript.specs.Types.{Command, Open, Put, Get, Step, Look, Inspect, Line, Refusal, NotOpen, Permit, Granted, Denied}
 use Rattle.transcript.specs.Meanings.{openMeant}
 use Rattle.transcript.specs.BySheet.{BufferLengths, Asked, fittingFor, bySheet}
-use Rattle.transcript.specs.Sheets.{AllDone, performedAll, Reached, NoOpen, actionIn, actionsIn, entryIn, entriesIn, runOf}
+use Rattle.transcript.specs.Sheets.{Reached, NoOpen, actionIn, actionsIn, entryIn, entriesIn, runOf}
 use Rattle.transcript.specs.Sheets.{BetweenOpens, SheetLinearizable}
 use Rattle.transcript.proofs.Lengths.{lengths-stay}
 use Rattle.transcript.proofs.Meanings.{line-again}
-use Rattle.transcript.proofs.BySheet.{performs-open, linearizable}
+use Rattle.transcript.proofs.BySheet.{first-lengths, performs-open, linearizable}
 
 -- ---- a list's run
 
@@ -168,6 +168,7 @@ performed-append w (c ∷ rest) more =
 
 pub sheet-linearizable : SheetLinearizable
 sheet-linearizable = record {
+  begins = first-lengths;
   parts = performed-append;
   lines-tell = line-again;
   opening = λ w reached k v p limit. linearizable .opens (asked w reached k v p limit);

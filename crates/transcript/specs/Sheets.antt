@@ -11,24 +11,11 @@ use Rattle.model.specs.History.{Action, start, step, look, Observation, started
 use Rattle.model.specs.Linearizability.{All, Claim, EffectsStay, OpensAs}
 use Rattle.lines.specs.Outcomes.{openLine, startLine, stepLine, lookLine, inspectLine}
 use Rattle.buffers.specs.Session.{Session}
-use Rattle.executor.specs.Perform.{opens, performOf}
+use Rattle.executor.specs.Perform.{opens, performOf, AllDone, performedAll}
+use Rattle.interpreter.specs.Sheet.{firstSession}
 use Rattle.transcript.specs.Types.{Command, Open, Put, Get, Step, Look, Inspect, Line, Refusal, NotOpen}
 use Rattle.transcript.specs.Meanings.{openMeant, startMeant, stepMeant, lookMeant, inspectMeant}
 use Rattle.transcript.specs.BySheet.{BufferLengths, fittingFor, opensByLine, bySheet}
-
--- ---- commands one after another
-
--- what they print, "one line each", and leave
-pub record AllDone : Type 0 where
-  pub lines : List Line
-  pub session : Session
-
-unfoldable pub performedAll : Session → List Command → AllDone
-performedAll w [] = record { lines = []; session = w }
-performedAll w (c ∷ rest) =
-    let d = performOf w c in
-    let r = performedAll (d .session) rest in
-    record { lines = d .line ∷ r .lines; session = r .session }
 
 -- a session that a sheet can come to, from any first one in buffers of the lent lengths
 pub record Reached (w : Session) : Type 0 where
@@ -99,8 +86,11 @@ pub record BetweenOpens (w : Session) (k v p limit : ℕ) (commands : List Comma
       → EffectsStay (runOf p limit commands (performedAll w commands))
       (runOf p limit (commands ++ more) (performedAll w (commands ++ more)))
 
--- What the commands of any sheet do between two opens is a list of demand 3.
+-- What the commands of any sheet do between two opens is a list of demand 3: those of `scriptOf` its bytes, whose lines
+-- `sheetOf` has, from `firstSession` on.
 pub record SheetLinearizable : Type 0 where
+  -- a sheet begins in buffers of the lent lengths, so that whatever it has played is `Reached`
+  pub begins : BufferLengths firstSession
   -- what follows a part of a sheet begins with the session that the part left, and its lines follow
   pub parts : (w : Session) (commands more : List Command)
       → let a = performedAll w commands in

@@ -7,14 +7,16 @@ use borrow.Author.Needs.{needs}
 use borrow.Author.Tests.{not-true, not-false}
 use Rattle.interpreter.specs.Playing.{playing, Within, playFor, playOf}
 use Rattle.interpreter.proofs.Playing.{again, stops, last}
-use Rattle.interpreter.proofs.Whole.{same-page}
+use Rattle.interpreter.proofs.Tries.{same-page}
 use Rattle.interpreter.proofs.play.play.Statement.{statement}
 use Rattle.interpreter.proofs.play.play.Tie as tie
 
 abbrev Inv-loop : tie.InvT-loop
 Inv-loop bytes ended nodes₀ versions₀ tally₀ out₀ at₀ left₀ nodes versions tally out at left =
-    (length nodes ≡ length nodes₀) × (length versions ≡ length versions₀) × (length tally ≡ length tally₀) × (length out ≡ length out₀)
-    × (playFor (suc left) bytes ended (playing at nodes versions tally out) ≡ playFor (suc left₀) bytes ended (playing at₀ nodes₀ versions₀ tally₀ out₀))
+    (length nodes ≡ length nodes₀) × (length versions ≡ length versions₀) × (length tally ≡ length tally₀)
+    × (length out ≡ length out₀)
+    × (playFor (suc left) bytes ended (playing at nodes versions tally out)
+    ≡ playFor (suc left₀) bytes ended (playing at₀ nodes₀ versions₀ tally₀ out₀))
     × (Within at₀ bytes out₀ → Within at bytes out₀)
 
 abbrev μ-loop : tie.MeasureT-loop
@@ -45,7 +47,8 @@ returns : tie.Need-returns Inv-loop μ-loop
 unfolding playOf
 returns c =
     let e = c .before .before .before .before .before .before .before .before .before .before .play-one .ensures in
-    let l = c .before .before .before .before .before .before .before .before .before .before .before .before .before .before .before .before .loop .inv in
+    let l = c .before .before .before .before .before .before .before .before .before .before .before .before .before
+    .before .before .before .loop .inv in
     let stop = sym (c .before .goes-on .ensures) ∙ not-true _ (c .if1 .taken) in
     (stops _ _ _ _ (e .0) _ stop ∙ l .4, λ h. same-page _ (l .3) (e .1 (same-page _ (sym (l .3)) (l .5 h))))
 
@@ -58,13 +61,15 @@ loop-less c = search needs
 loop-again : tie.Need-loop-again Inv-loop μ-loop
 loop-again c =
     let e = c .before .before .before .before .before .before .before .before .before .before .play-one .ensures in
-    let l = c .before .before .before .before .before .before .before .before .before .before .before .before .before .before .before .before .loop .inv in
+    let l = c .before .before .before .before .before .before .before .before .before .before .before .before .before
+    .before .before .before .loop .inv in
     let on = sym (c .before .goes-on .ensures) ∙ not-false _ (c .if1 .left) in (
       search needs,
       search needs,
       search needs,
       search needs,
-      again _ _ _ _ (e .0) _ (c .before .before .before .before .before .before .before .before .before .before .before .before .before .before .before .loop-test .taken) on ∙ l .4,
+      again _ _ _ _ (e .0) _ (c .before .before .before .before .before .before .before .before .before .before
+          .before .before .before .before .before .loop-test .taken) on ∙ l .4,
       λ h. same-page _ (l .3) (e .1 (same-page _ (sym (l .3)) (l .5 h))),
     )
 
@@ -87,8 +92,10 @@ returns-2 : tie.Need-returns-2 Inv-loop μ-loop
 unfolding playOf
 returns-2 c =
     let e = c .before .before .before .before .before .before .before .before .play-one2 .ensures in
-    let l = c .before .before .before .before .before .before .before .before .before .before .before .before .before .before .loop .inv in
-    let none = c .before .before .before .before .before .before .before .before .before .before .before .before .before .loop-test .left in
+    let l = c .before .before .before .before .before .before .before .before .before .before .before .before .before
+    .before .loop .inv in
+    let none = c .before .before .before .before .before .before .before .before .before .before .before .before
+    .before .loop-test .left in
     (last _ _ _ _ (e .0) _ (omega (arith, none)) ∙ l .4, λ h. same-page _ (l .3) (e .1 (same-page _ (sym (l .3)) (l .5 h))))
 
 pub play-spec : {M : Type 1} → statement M

@@ -3,7 +3,7 @@ use mathlib.Core.List.{[]}
 use mathlib.Core.Path.{sym, ap, _∙_}
 use native.Mathlib.Omega.{arith}
 use borrow.Author.Tests.{not-true, not-false}
-use Rattle.interpreter.proofs.Whole.{full, plays, needs-bytes, is-over, stays-within, next-within}
+use Rattle.interpreter.proofs.Tries.{full, plays, needs-bytes, is-over, stays-within, next-within}
 use borrow.Author.Needs.{needs}
 use Rattle.interpreter.proofs.play.play_one.Statement.{statement}
 use Rattle.interpreter.proofs.play.play_one.Tie as tie
@@ -89,7 +89,8 @@ same-length-6 c = search needs
 returns-3 : tie.Need-returns-3
 returns-3 c =
     let e = c .stay2 .ensures in
-    let room = sym (c .before .before .before .before .before .has-room .ensures) ∙ not-false _ (c .before .before .before .before .if1 .left) in (
+    let room = sym (c .before .before .before .before .before .has-room .ensures) ∙ not-false _ (c .before .before
+    .before .before .if1 .left) in (
       needs-bytes _ _ _ _ _ _ _ _ e room (sym (c .before .enum-told .given .1) ∙ c .before .before .before .rest .ensures),
       stays-within _ _ _ e,
     )
@@ -100,7 +101,8 @@ same-length-7 c = search needs
 returns-4 : tie.Need-returns-4
 returns-4 c =
     let e = c .stay3 .ensures in
-    let room = sym (c .before .before .before .before .before .has-room .ensures) ∙ not-false _ (c .before .before .before .before .if1 .left) in (
+    let room = sym (c .before .before .before .before .before .has-room .ensures) ∙ not-false _ (c .before .before
+    .before .before .if1 .left) in (
       is-over _ _ _ _ _ _ _ _ e room (sym (c .before .enum-told2 .given .1) ∙ c .before .before .before .rest .ensures),
       stays-within _ _ _ e,
     )
@@ -111,8 +113,10 @@ same-length-8 c = search needs
 returns-5 : tie.Need-returns-5
 returns-5 c =
     let e = c .before .before .end .ensures in
-    let found = sym (c .before .before .before .before .before .found2 .given .1) ∙ c .before .before .before .before .before .before .before .rest .ensures in
-    let room = sym (c .before .before .before .before .before .before .before .before .before .has-room .ensures) ∙ not-false _ (c .before .before .before .before .before .before .before .before .if1 .left) in (
+    let found = sym (c .before .before .before .before .before .found2 .given .1) ∙ c .before .before .before .before
+    .before .before .before .rest .ensures in
+    let room = sym (c .before .before .before .before .before .before .before .before
+    .before .has-room .ensures) ∙ not-false _ (c .before .before .before .before .before .before .before .before .if1 .left) in (
       plays _ _ _ _ _ _ _ _ _ room found (e .0 _ _ _),
       λ h. record { read = omega (arith, h .read, ap (λ q. q .read) (e .0 [] [] [])); next = e .1 (h .next) },
     )

@@ -34,14 +34,17 @@ same-length c = search needs
 
 returns : tie.Need-returns
 returns c =
-    let t = c .took .ensures .1 in
+    let t = c .took .ensures in
     let s = c .before .before .before .before .before .before .before .before .shift in
     let a = c .before .before .before .before .before .before .before .before .before .before .before .before in
     let r = c .before .before .before .before .read in
     let k = length (s .last .0) - s .result in (
-      subst (Ready (c .took .result)) (same-length c) t,
-      kept (a .args .bytes .now) _ _ (a .pre .0 .inside .from) (a .pre .0 .inside .end) k (r .last .0) (a .args .r .state) (r .result)
-      (s .result) (s .last .0) (c .took .result) (s .ensures .0) (s .ensures .1) (c .took .ensures .0),
+      subst (Ready (c .took .result)) (same-length c) (t .1 .0),
+      (
+        t .1 .1,
+        kept (a .args .bytes .now) _ _ (a .pre .0 .inside .from) (a .pre .0 .inside .end) k (r .last .0) (a .args .r .state)
+            (r .result) (s .result) (s .last .0) (c .took .result) (s .ensures .0) (s .ensures .1) (t .0),
+      ),
     )
 
 pub refill-spec : {M : Type 1} → statement M

@@ -2,7 +2,6 @@
 use Prim.Native.Nat.{_-_}
 use mathlib.Core.Path.{refl, sym, ap, subst}
 use native.Mathlib.Omega.{arith}
-use lib.ListN.{length}
 use borrow.Author.Needs.{needs}
 use Rattle.sheet.specs.Runs.{InRoom, tookOf}
 use Rattle.sheet.proofs.Standing.{go-on, over}
@@ -32,10 +31,14 @@ returns c =
     (ap (tookOf _ _) (sym e), go-on _ _ (record { from = omega arith; end = omega (arith, room) }) refl)
 
 returns-2 : tie.Need-returns-2
-returns-2 c = (ap (tookOf _ _) (sym (c .enum-told .given .1)), go-on _ _ (record { from = omega arith; end = c .before .before .pre .0 }) refl)
+returns-2 c =
+    let end = c .before .before .pre .0 in
+    (ap (tookOf _ _) (sym (c .enum-told .given .1)), go-on _ _ (record { from = omega arith; end = end }) refl)
 
 returns-3 : tie.Need-returns-3
-returns-3 c = (ap (tookOf _ _) (sym (c .enum-told2 .given .1)), over _ _ (record { from = omega arith; end = c .before .before .pre .0 }) refl)
+returns-3 c =
+    let end = c .before .before .pre .0 in
+    (ap (tookOf _ _) (sym (c .enum-told2 .given .1)), over _ _ (record { from = omega arith; end = end }) refl)
 
 pub took-spec : {M : Type 1} → statement M
 took-spec = tie.close (tie.spec enum-known-input add-t7 enum-told enum-told-2 returns returns-2 returns-3)

@@ -1,6 +1,5 @@
 -- What is played of the bytes held is the page.
 use native.Mathlib.Omega.{arith}
-use lib.ListN.{length}
 use Rattle.sheet.proofs.Paging.{reach, page}
 use borrow.Author.Needs.{needs}
 use Rattle.sheet.proofs.pages.play_page.Statement.{statement}
@@ -18,10 +17,12 @@ part-play-end c = search needs
 play-requires : tie.Need-play-requires
 play-requires c κs = search needs
 
-add-t17 : tie.Need-add-t17
-add-t17 c =
-    let start = c .before .before .before .before .before .before .before .before .before .before .before .before .before .before .before .before .before .before .before .before .before .before in
-    let w = c .before .before .before .before .before .before .before .before .before .before .play .ensures .1 (record { read = omega arith; next = omega arith }) in
+add-t16 : tie.Need-add-t16
+add-t16 c =
+    let start = c .before .before .before .before .before .before .before .before .before .before .before .before
+    .before .before .before .before .before .before .before .before .before .before in
+    let w = c .before .before .before .before .before .before .before .before .before
+    .before .play .ensures .1 (record { read = omega arith; next = omega arith }) in
     let end = reach (start .args .r) (start .args .bytes .now) (start .pre .0) _ _ w in
     search (needs, end)
 
@@ -39,7 +40,8 @@ same-length-4 c = search needs
 
 returns : tie.Need-returns
 returns c =
-    let start = c .before .before .before .before .before .before .before .before .before .before .before .before .before .before .before .before .before .before .before .before .before .before in
+    let start = c .before .before .before .before .before .before .before .before .before .before .before .before
+    .before .before .before .before .before .before .before .before .before .before in
     let a = start .args in
     let called = c .before .before .before .before .before .before .before .before .before .before .play in
     let e = called .ensures in
@@ -47,7 +49,7 @@ returns c =
     let laws = page (a .r) (a .bytes .now) (a .nodes .now) (a .versions .now) (a .tally .now) (a .out .now)
     (called .last .1 .1 .1 .0) (called .last .1 .1 .1 .1 .0) (called .last .1 .1 .1 .1 .1 .0) (called .last .1 .1 .1 .1 .1 .1 .0)
     (called .result) (e .0) (start .pre .0) w (start .pre .1) in
-    (laws .0, (laws .1, (laws .2, w .next)))
+    (laws .0, (laws .1, w .next))
 
 pub play-page-spec : {M : Type 1} → statement M
 play-page-spec =
@@ -57,7 +59,7 @@ play-page-spec =
     part-play-start
     part-play-end
     play-requires
-    add-t17
+    add-t16
     same-length
     same-length-2
     same-length-3

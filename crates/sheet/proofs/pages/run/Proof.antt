@@ -1,11 +1,11 @@
 -- Between two turns the run is ready for the next.
-use Prim.Native.Nat.{_≤_}
-use mathlib.Core.Path.{_≡_, sym, _∙_}
+use mathlib.Core.Path.{_≡_, refl, sym, subst, _∙_}
 use native.Mathlib.Omega.{arith}
 use lib.ListN.{length}
 use borrow.Author.Needs.{needs}
+use Rattle.sheet.specs.declared.types.Run.{Run}
 use Rattle.sheet.specs.Runs.{Ready}
-use Rattle.sheet.proofs.Standing.{is-over}
+use Rattle.sheet.proofs.Standing.{first-ready, is-over}
 use Rattle.sheet.proofs.pages.run.Statement.{statement}
 use Rattle.sheet.proofs.pages.run.Tie as tie
 
@@ -17,11 +17,14 @@ Inv-loop bytes₀ nodes₀ versions₀ tally₀ out₀ at₀ turns₀ bytes node
 abbrev μ-loop : tie.MeasureT-loop
 μ-loop bytes₀ nodes₀ versions₀ tally₀ out₀ at₀ turns₀ bytes nodes versions tally out at turns = turns
 
-closed-requires : tie.Need-closed-requires Inv-loop μ-loop
-closed-requires c κs = search needs
+first-requires : tie.Need-first-requires Inv-loop μ-loop
+first-requires c κs = search needs
 
 loop-holds : tie.Need-loop-holds Inv-loop μ-loop
-loop-holds c = search needs
+loop-holds c =
+    let start = c .before .before .before .before .before .before in
+    let size = length (start .args .bytes .now) in
+    (refl, refl, refl, refl, refl, subst (λ (r : Run). Ready r size) (sym (c .first .ensures)) (first-ready size (start .pre)))
 
 supply-requires : tie.Need-supply-requires Inv-loop μ-loop
 supply-requires c κs = c .before .before .loop .inv .5
@@ -51,7 +54,9 @@ turn-requires : tie.Need-turn-requires Inv-loop μ-loop
 turn-requires c κs =
     let s = c .before .before .before .before .before .before .before .before .before .supply in
     let l = c .before .before .before .before .before .before .before .before .before .before .before .before .loop .inv in
-    (search needs, omega (arith, c .before .before .before .before .before .before .before .before .before .before .before .before .before .before .before .before .before .before .before .pre, l .0, s .kept))
+    let size = c .before .before .before .before .before .before .before .before .before .before .before .before .before
+    .before .before .before .before .before .before .pre in
+    (search needs, (s .ensures .1, omega (arith, size, l .0, s .kept)))
 
 sub-turns : tie.Need-sub-turns Inv-loop μ-loop
 sub-turns c = search needs
@@ -61,8 +66,16 @@ loop-less c = search needs
 
 loop-again : tie.Need-loop-again Inv-loop μ-loop
 loop-again c =
-    let l = c .before .before .before .before .before .before .before .before .before .before .before .before .before .before .before .before .before .before .before .before .before .loop .inv in
-    (search needs, search needs, search needs, search needs, search needs, c .before .before .before .before .before .before .before .before .turn .ensures)
+    let l = c .before .before .before .before .before .before .before .before .before .before .before .before .before
+    .before .before .before .before .before .before .before .before .loop .inv in (
+      search needs,
+      search needs,
+      search needs,
+      search needs,
+      search needs,
+      c .before .before .before .before .before
+          .before .before .before .turn .ensures,
+    )
 
 stop-requires : tie.Need-stop-requires Inv-loop μ-loop
 stop-requires c κs = search needs
@@ -91,7 +104,7 @@ run-spec =
     (tie.spec
     Inv-loop
     μ-loop
-    closed-requires
+    first-requires
     loop-holds
     supply-requires
     is-over-requires

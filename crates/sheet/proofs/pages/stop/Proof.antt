@@ -5,7 +5,7 @@ use Rattle.sheet.proofs.pages.stop.Statement.{statement}
 use Rattle.sheet.proofs.pages.stop.Tie as tie
 
 returns : tie.Need-returns
-returns c = (refl, λ size h. over _ _ (record { from = h .from; end = h .end }) refl)
+returns c = (refl, λ size h. over _ size (record { from = h .from; end = h .end }) refl .0)
 
 pub stop-spec : {M : Type 1} → statement M
 stop-spec = tie.close (tie.spec returns)

@@ -1,5 +1,6 @@
 -- Bytes only where they are needed.
 use borrow.Author.Needs.{needs}
+use Rattle.sheet.proofs.Standing.{nothing-needed, page-needed, over-needs}
 use Rattle.sheet.proofs.pages.supply.Statement.{statement}
 use Rattle.sheet.proofs.pages.supply.Tie as tie
 
@@ -25,13 +26,13 @@ returns : tie.Need-returns
 returns c = search needs
 
 returns-2 : tie.Need-returns-2
-returns-2 c = search needs
+returns-2 c = (c .before .before .before .pre, nothing-needed (c .before .before .before .args .r) (c .enum-told2 .given .1))
 
 returns-3 : tie.Need-returns-3
-returns-3 c = search needs
+returns-3 c = (c .before .before .before .pre, page-needed (c .before .before .before .args .r) (c .enum-told3 .given .1))
 
 returns-4 : tie.Need-returns-4
-returns-4 c = search needs
+returns-4 c = (c .before .before .before .pre, over-needs (c .before .before .before .args .r) (c .enum-told4 .given .1))
 
 pub supply-spec : {M : Type 1} → statement M
 supply-spec =

@@ -14,7 +14,7 @@ slice-reshare-prefix-write c = search needs
 
 slice-aggregate-write : tie.Need-slice-aggregate-write
 slice-aggregate-write c =
-    let p = c .before .before .before .before .before .before .before .before .before .before .play-page in
+    let p = c .before .before .before .before .before .before .before .before .before .play-page in
     sym (length-take-le _ _ (omega (arith, p .ensures, p .kept)))
 
 write-requires : tie.Need-write-requires
@@ -36,7 +36,8 @@ same-length-4 : tie.Need-same-length-4
 same-length-4 c = search needs
 
 returns : tie.Need-returns
-returns c = c .stop .ensures .1 _ (c .before .before .before .before .before .before .before .before .before .before .before .before .before .play-page .ensures .1 .1 .0 .inside)
+returns c = c .stop .ensures .1 _ (c .before .before .before .before .before .before .before .before .before .before
+    .before .before .play-page .ensures .1 .0 .inside)
 
 same-length-5 : tie.Need-same-length-5
 same-length-5 c = search needs

@@ -1,6 +1,5 @@
 -- Each write takes some of what is left.
 use Prim.Native.Nat.{_-_, _≤_}
-use native.Mathlib.Omega.{arith}
 use lib.ListN.{length}
 use borrow.Author.Needs.{needs}
 use Rattle.sheet.proofs.retry.write.Statement.{statement}

@@ -2,7 +2,7 @@
 use Prim.Native.Nat.{ℕ, _+_, _-_, _≤_}
 use mathlib.Core.Bool.{Bool, true, false}
 use mathlib.Core.List.{List}
-use mathlib.Core.Path.{_≡_, refl, sym, ap, _∙_}
+use mathlib.Core.Path.{_≡_, refl, ap, _∙_}
 use native.Mathlib.Omega.{arith}
 use lib.Dec.{leb}
 use lib.ListN.{length, drop, length-drop}
@@ -12,7 +12,7 @@ use Rattle.decoder.specs.declared.types.Decoded.the-variants.{Whole, Unknown, S
 use Rattle.decoder.specs.Commands.{commandFrom}
 use Rattle.decoder.proofs.Pieces as pieces
 use Rattle.ending.specs.declared.types.Rest.{Rest}
-use Rattle.ending.specs.declared.types.Rest.the-variants.{Next, More, Over, Ends}
+use Rattle.ending.specs.declared.types.Rest.the-variants.{Next, More, Over}
 use Rattle.ending.specs.Rest.{restBy, restOf}
 use Rattle.printer.specs.Lines.{room}
 use Rattle.interpreter.specs.declared.types.Needs.{Needs}
@@ -36,7 +36,8 @@ module _ (bytes : List ℕ) (ended : Bool) (p : Played) (nodes versions tally ou
   unfolding playOne
   full r e f = rw e (simp f)
 
-  pub plays : (q : Playing) (x : Rest) → fits ≡ true → x ≡ restOf bytes (p .read) ended → q ≡ playNext now x → q ≡ playOne bytes ended now
+  pub plays : (q : Playing) (x : Rest) → fits ≡ true → x ≡ restOf bytes (p .read) ended → q ≡ playNext now x
+      → q ≡ playOne bytes ended now
   unfolding playOne
   plays q x f h e = e ∙ simp (f, ← h)
 
@@ -68,7 +69,8 @@ next-whole false Short c n e = cc
 next-whole true End c n e = cc
 next-whole false End c n e = cc
 
-pub next-within : (bytes : List ℕ) (ended : Bool) (at : ℕ) (c : Command) (n : ℕ) → Next c n ≡ restOf bytes at ended → n ≤ length bytes - at
+pub next-within : (bytes : List ℕ) (ended : Bool) (at : ℕ) (c : Command) (n : ℕ) → Next c n ≡ restOf bytes at ended
+    → n ≤ length bytes - at
 unfolding restOf
 next-within bytes ended at c n h =
     rw (← length-drop at bytes) (pieces.whole-within (drop at bytes) c n (next-whole ended (commandFrom (drop at bytes)) c n h) .1)
