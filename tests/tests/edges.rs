@@ -5,11 +5,14 @@ use std::fs::File;
 use std::io::{Read, Write};
 use std::os::fd::OwnedFd;
 use std::os::unix::net::UnixStream;
+use std::os::unix::process::ExitStatusExt;
 use std::process::{Child, Command, Stdio};
 use std::thread;
 use std::time::{Duration, Instant};
 use store_tests::compare::{difference, Feed, Program};
 use store_tests::{generate, sheet};
+
+const SIGPIPE: i32 = 13;
 
 /// The program under test, if one is named.
 fn program() -> Option<String> {
@@ -28,21 +31,25 @@ fn feed(child: &mut Child, sheet: &[u8]) {
     thread::spawn(move || drop(stdin.write_all(&sheet)));
 }
 
-/// Waits for the program and answers what it says on standard error, if that is piped; fails, and ends it, where it hangs.
-fn ends(mut child: Child) -> String {
-    let end = Instant::now() + Duration::from_secs(60);
-    while child.try_wait().unwrap().is_none() {
+const PATIENCE: Duration = Duration::from_secs(60);
+
+/// Waits for the program and answers its exit status, or the signal that ended it, and what it says on standard error; fails,
+/// and ends it, where it hangs.
+fn ends(mut child: Child) -> (Result<i32, i32>, String) {
+    let end = Instant::now() + PATIENCE;
+    let status = loop {
+        if let Some(status) = child.try_wait().unwrap() {
+            break status;
+        }
         if Instant::now() > end {
             child.kill().unwrap();
             panic!("the program hangs");
         }
         thread::sleep(Duration::from_millis(1));
-    }
+    };
     let mut said = String::new();
-    if let Some(mut stderr) = child.stderr.take() {
-        stderr.read_to_string(&mut said).unwrap();
-    }
-    said
+    child.stderr.take().unwrap().read_to_string(&mut said).unwrap();
+    (status.code().ok_or_else(|| status.signal().unwrap()), said)
 }
 
 /// Starts the program through a shell that first does this.
@@ -52,9 +59,9 @@ fn after(preparation: &str, path: &str) -> Command {
     command
 }
 
-/// Whether the program says this, and nothing else.
+/// Whether the program says this and nothing else, and ends as any program does.
 fn says(child: Child, call: &str, error: &str) {
-    assert_eq!(ends(child), format!("sheet: {call}: {error}\n"));
+    assert_eq!(ends(child), (Ok(0), format!("sheet: {call}: {error}\n")));
 }
 
 #[test]
@@ -68,12 +75,16 @@ fn empty_sheet_prints_nothing() {
 fn closed_output_ends_the_program() {
     let Some(path) = program() else { return };
     let sheet = generate::long_sheet(1, 200_000);
-    for (preparation, said) in [("", ""), ("trap '' PIPE;", "sheet: standard output: Broken pipe\n")] {
-        let mut command = after(preparation, &path);
+    for ignored in [false, true] {
+        let mut command = after(if ignored { "trap '' PIPE;" } else { "" }, &path);
         let mut child = command.stdin(Stdio::piped()).stdout(Stdio::piped()).stderr(Stdio::piped()).spawn().unwrap();
         drop(child.stdout.take());
         feed(&mut child, &sheet);
-        assert_eq!(ends(child), said);
+        if ignored {
+            says(child, "standard output", "Broken pipe");
+        } else {
+            assert_eq!(ends(child), (Err(SIGPIPE), String::new()));
+        }
     }
 }
 
@@ -118,8 +129,9 @@ fn descriptors_that_do_not_wait_are_waited_for() {
     });
     thread::sleep(Duration::from_millis(100));
     let mut printed = Vec::new();
+    reader.set_read_timeout(Some(PATIENCE)).unwrap();
     reader.read_to_end(&mut printed).unwrap();
-    assert_eq!(ends(child), "");
+    assert_eq!(ends(child), (Ok(0), String::new()));
     assert_eq!(difference(&due, &printed), None);
 }
 
@@ -132,13 +144,16 @@ fn interrupted_calls_are_made_again() {
     let compiler = std::env::var("CC").unwrap_or("cc".to_string());
     assert!(Command::new(compiler).args(["-shared", "-fPIC", "-o"]).args([shim.as_os_str(), source.as_ref()]).status().unwrap().success());
     let sheet = generate::long_sheet(5, 50_000);
-    let file = std::env::temp_dir().join(format!("interrupted-{}.sheet", std::process::id()));
-    std::fs::write(&file, &sheet).unwrap();
-    let output = Command::new(path).env("LD_PRELOAD", &shim).stdin(File::open(&file).unwrap()).output().unwrap();
+    let lines = std::env::temp_dir().join(format!("interrupted-{}.out", std::process::id()));
+    let mut command = Command::new(path);
+    command.env("LD_PRELOAD", &shim).stdin(Stdio::piped()).stdout(File::create(&lines).unwrap()).stderr(Stdio::piped());
+    let mut child = command.spawn().unwrap();
+    feed(&mut child, &sheet);
+    let (status, said) = ends(child);
+    let printed = std::fs::read(&lines).unwrap();
     std::fs::remove_file(&shim).unwrap();
-    std::fs::remove_file(&file).unwrap();
-    let (printed, told) = (output.stdout, String::from_utf8(output.stderr).unwrap());
-    assert!(told.starts_with("interrupted: ") && !told.contains("sheet:"), "{told}");
+    std::fs::remove_file(&lines).unwrap();
+    assert!(status == Ok(0) && said.starts_with("interrupted: ") && !said.contains("sheet:"), "{status:?} {said}");
     assert_eq!(difference(&sheet::run(&sheet), &printed), None);
 }
 

@@ -7,7 +7,7 @@ use Rattle.decoder.specs.Types.{Open, Put, Get, Step, Look, Inspect, Dec
 use Rattle.decoder.specs.Commands.{bigEndianFrom, bigEndian, formFrom, codeFrom, commandFrom}
 
 -- "For open 2 3 1 40, get 0 7, six steps of 0, look 7 0"
-sheet : List ℕ
+unfoldable pub sheet : List ℕ
 sheet =
     0x4F ∷ 0 ∷ 2 ∷ 0 ∷ 3 ∷ 1 ∷ 0 ∷ 0 ∷ 0 ∷ 40
     ∷ 0x47 ∷ 0 ∷ 0 ∷ 0 ∷ 0 ∷ 7

@@ -3,4 +3,5 @@ pub mod Playing
 pub mod Sheets
 pub mod Printed
 pub mod Progress
-pub mod Turns
+pub mod Rounds
+pub mod Examples

@@ -18,12 +18,12 @@ use Rattle.decoder.proofs.Pieces.{whole-within}
 use Rattle.ending.specs.Rest.{restBy, restOf}
 use Rattle.printer.specs.declared.types.Line.{Line}
 use Rattle.printer.specs.declared.types.Line.the-variants.{Refused}
-use Rattle.printer.specs.Lines.{Page, lineOf, printOf, room}
+use Rattle.printer.specs.Lines.{lineOf, text, room, Page, printOf}
 use Rattle.executor.specs.Perform.{performOf, performedAll}
 use Rattle.interpreter.specs.declared.types.Needs.{Needs}
-use Rattle.interpreter.specs.Sheet.{scriptOf, linesFrom, text}
+use Rattle.interpreter.specs.Sheet.{scriptOf, linesFrom}
 use Rattle.interpreter.specs.Playing.{Playing, pageWith, played, endedBy, needing, playNext, playOne, goesOn, playFor}
-use Rattle.interpreter.specs.Turns.{isOver, printedOn}
+use Rattle.interpreter.specs.Rounds.{isOver, printedOn}
 use Rattle.interpreter.proofs.Sheets.{lines-by, still, sheet-laws}
 
 -- ---- a line on a page

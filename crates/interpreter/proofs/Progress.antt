@@ -17,7 +17,7 @@ use Rattle.ending.specs.Rest.{restBy, restOf}
 use Rattle.printer.specs.Lines.{room}
 use Rattle.interpreter.specs.declared.types.Needs.{Needs}
 use Rattle.interpreter.specs.Playing.{Playing, played, playNext, playOne, goesOn, playFor, playOf}
-use Rattle.interpreter.specs.Turns.{isOver}
+use Rattle.interpreter.specs.Rounds.{isOver}
 use Rattle.interpreter.proofs.Playing.{last}
 
 module _ (bytes : List ℕ) (ended : Bool) where

@@ -1,3 +1,3 @@
 pub mod Sheet
 pub mod Playing
-pub mod Turns
+pub mod Rounds

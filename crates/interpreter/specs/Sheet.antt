@@ -11,7 +11,6 @@ use Rattle.decoder.specs.declared.types.Decoded.the-variants.{Whole, Unknown, S
 use Rattle.decoder.specs.Commands.{commandFrom}
 use Rattle.printer.specs.declared.types.Line.{Line}
 use Rattle.printer.specs.declared.types.Line.the-variants.{Refused}
-use Rattle.printer.specs.Lines.{lineOf}
 use Rattle.buffers.specs.Session.{Session, session, buffers}
 use Rattle.executor.specs.Perform.{performOf, performedAll}
 
@@ -58,18 +57,13 @@ firstSession =
 unfoldable pub sheetOf : (bytes : List ℕ) → List Line
 sheetOf bytes = linesFrom firstSession (scriptOf bytes)
 
--- as bytes
-unfoldable pub text : List Line → List ℕ
-text [] = []
-text (l ∷ lines) = lineOf l ++ text lines
-
 -- ---- what it comes to
 
 -- front holds whole commands and nothing else
 abbrev pub Complete : (front : List ℕ) → Type 0
 Complete front = scriptOf front .ending ≡ []
 
--- How many commands there can be is no part of what a sheet prints.
+-- The bound of `scriptFor` never shows.
 pub record SheetLaws : Type 0 where
   -- commands from the front, each performed and printed, from any session on
   pub command : (w : Session) (bytes : List ℕ) (c : Command) (n : ℕ) → commandFrom bytes ≡ Whole c n

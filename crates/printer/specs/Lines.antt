@@ -1,6 +1,6 @@
 -- Document 01, "Sheet program": the line that an answer prints.
 use Prim.Native.Nat.{ℕ, _+_}
-use mathlib.Core.List.{List, [], _∷_}
+use mathlib.Core.List.{List, [], _∷_, _++_}
 use lib.Dec.{leb}
 use lib.ListN.{length}
 use lib.Seq.{sets}
@@ -43,6 +43,11 @@ wordsOf (Refused r) = ascii "refused" ∷ decimal (numberOf r) ∷ []
 
 abbrev pub lineOf : Line → List ℕ
 lineOf l = line (wordsOf l)
+
+-- one behind another
+unfoldable pub text : List Line → List ℕ
+text [] = []
+text (l ∷ lines) = lineOf l ++ text lines
 
 -- room for any line
 abbrev pub room : ℕ

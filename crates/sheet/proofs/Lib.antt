@@ -3,3 +3,5 @@ pub mod Shifting
 pub mod Signs
 pub mod Refilling
 pub mod Paging
+pub mod Running
+pub mod Prints

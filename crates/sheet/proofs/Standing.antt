@@ -6,7 +6,7 @@ use native.Mathlib.Omega.{arith}
 use Rattle.decoder.specs.Commands.{longestCommand}
 use Rattle.interpreter.specs.declared.types.Needs.{Needs}
 use Rattle.interpreter.specs.Playing.{goesOn}
-use Rattle.interpreter.specs.Turns.{isOver}
+use Rattle.interpreter.specs.Rounds.{isOver}
 use Rattle.sheet.specs.declared.types.Run.{Run}
 use Rattle.sheet.specs.Runs.{InBuffer, Ready, Supplied, firstRun}
 

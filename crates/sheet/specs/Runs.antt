@@ -1,18 +1,20 @@
--- The program's run: its bytes lie in a buffer, of which a turn plays those that are held.
+-- The program's run: its bytes lie in a buffer, of which a round plays those that are held.
 use Prim.Native.Nat.{ℕ, _+_, _-_, _≤_, _<_, min}
-use mathlib.Core.Bool.{true, false}
-use mathlib.Core.List.{List}
+use mathlib.Core.Bool.{Bool, true, false}
+use mathlib.Core.List.{List, [], _∷_, _++_}
 use mathlib.Core.Logic.{_≢_}
 use mathlib.Core.Path.{_≡_}
 use lib.Dec.{eqb}
 use lib.IntN.{ℤ, pos, negsuc}
-use lib.ListN.{take, drop}
+use lib.ListN.{length, take, drop}
 use Rattle.model.specs.declared.types.State.{State}
 use Rattle.model.specs.Choice.{if_then_else_}
+use Rattle.printer.specs.Lines.{room}
 use Rattle.buffers.specs.Session.{session}
 use Rattle.interpreter.specs.declared.types.Needs.{Needs}
 use Rattle.interpreter.specs.Sheet.{firstSession}
 use Rattle.interpreter.specs.Playing.{Playing, playOf}
+use Rattle.interpreter.specs.Rounds.{isOver}
 use Rattle.sheet.specs.declared.types.Input.{Input}
 use Rattle.sheet.specs.declared.types.Run.{Run}
 
@@ -79,16 +81,109 @@ paged r p = record {
   needs = p .needs;
 }
 
--- all that a page leaves
-pub record PageDone : Type 0 where
+-- a run that goes no further
+abbrev pub stopped : Run → Run
+stopped r = record { state = r .state; from = r .from; end = r .end; ended = r .ended; next = r .next; needs = Needs.Over }
+
+-- a write that fails ends the run
+abbrev pub settled : (written : Bool) → Run → Run
+settled written r = if written then r else stopped r
+
+-- ---- rounds
+
+-- all that a run has: its bytes, the store's buffers and tally, and its page
+pub record Memory : Type 0 where
   pub run : Run
+  pub bytes : List ℕ
   pub nodes : List ℕ
   pub versions : List ℕ
   pub tally : List ℕ
   pub out : List ℕ
 
-abbrev pub done : Run → (nodes versions tally out : List ℕ) → PageDone
-done r nodes versions tally out = record { run = r; nodes = nodes; versions = versions; tally = tally; out = out }
+abbrev pub memory : Run → (bytes nodes versions tally out : List ℕ) → Memory
+memory r bytes nodes versions tally out =
+    record { run = r; bytes = bytes; nodes = nodes; versions = versions; tally = tally; out = out }
 
-unfoldable pub pageDone : Run → Playing → PageDone
-pageDone r p = done (paged r p) (p .session .nodes) (p .session .versions) (p .session .tally) (p .page .bytes)
+-- what the system answers in a round: what a read brings, where bytes are needed, what then stands in the buffer behind those
+-- held, and whether the page could be written
+pub record Answers : Type 0 where
+  pub input : Input
+  pub behind : List ℕ
+  pub written : Bool
+
+-- more bytes, where they are needed: those held come to the front
+abbrev pub suppliedBy : Needs → Memory → Input → (behind : List ℕ) → Memory
+suppliedBy Needs.Bytes m i behind =
+    let r = m .run in
+    memory (tookOf (r .state) (r .end - r .from) i) (heldIn r (m .bytes) ++ behind) (m .nodes) (m .versions) (m .tally) (m .out)
+suppliedBy Needs.Nothing m i behind = m
+suppliedBy Needs.Page m i behind = m
+suppliedBy Needs.Over m i behind = m
+
+unfoldable pub suppliedOf : Memory → Input → (behind : List ℕ) → Memory
+suppliedOf m i behind = suppliedBy (m .run .needs) m i behind
+
+-- a page of what is held
+unfoldable pub playedOf : Memory → (written : Bool) → Memory
+playedOf m written =
+    let p = pageOf (m .run) (m .bytes) (m .nodes) (m .versions) (m .tally) (m .out) in
+    memory (settled written (paged (m .run) p)) (m .bytes) (p .session .nodes) (p .session .versions) (p .session .tally)
+    (p .page .bytes)
+
+unfoldable pub roundOf : Memory → Answers → Memory
+roundOf m a =
+    let s = suppliedOf m (a .input) (a .behind) in
+    if isOver (s .run .needs) then s else playedOf s (a .written)
+
+unfoldable pub roundsFrom : Memory → List Answers → Memory
+roundsFrom m [] = m
+roundsFrom m (a ∷ answers) = roundsFrom (roundOf m a) answers
+
+-- each page that is played holds what is printed on it
+abbrev pub PageHolds : Memory → Answers → Type 0
+PageHolds m a =
+    let s = suppliedOf m (a .input) (a .behind) in
+    isOver (s .run .needs) ≡ false → playedOf s true .run .next ≤ length (s .out)
+
+abbrev pub PagesHold : Memory → List Answers → Type 0
+PagesHold m [] = Unit {0}
+PagesHold m (a ∷ answers) = PageHolds m a × PagesHold (roundOf m a) answers
+
+-- ---- what the functions promise: all that they leave, by what the system answered
+
+-- the bytes held at the front, and what was read behind them
+pub record Refilled (r q : Run) (bytes bytes′ : List ℕ) : Type 0 where
+  pub input : Input
+  pub behind : List ℕ
+  pub taken : q ≡ tookOf (r .state) (r .end - r .from) input
+  pub buffer : bytes′ ≡ heldIn r bytes ++ behind
+
+pub record Supplies (r q : Run) (bytes bytes′ : List ℕ) : Type 0 where
+  pub input : Input
+  pub behind : List ℕ
+  pub same : (nodes versions tally out : List ℕ)
+      → memory q bytes′ nodes versions tally out ≡ suppliedOf (memory r bytes nodes versions tally out) input behind
+
+pub record Plays (m m′ : Memory) : Type 0 where
+  pub written : Bool
+  pub same : m′ ≡ playedOf m written
+  pub holds : playedOf m true .run .next ≤ length (m .out)
+
+-- so many rounds, of so many that can be made
+pub record Ran (m m′ : Memory) (left all : ℕ) : Type 0 where
+  pub answers : List Answers
+  pub same : m′ ≡ roundsFrom m answers
+  pub holds : PagesHold m answers
+  pub count : length answers + left ≡ all
+
+-- a run ends when it is over; only if it made more rounds than any run has it ends before
+pub record Runs (m m′ : Memory) : Type 0 where
+  pub answers : List Answers
+  pub same : m′ ≡ roundsFrom m answers
+  pub holds : PagesHold m answers
+  pub over : m′ .run .needs ≢ Needs.Over → length answers ≡ 18_446_744_073_709_551_615
+
+-- what the program lends itself at first, and a page with room for a line
+pub record Lends (nodes versions tally out : List ℕ) : Type 0 where
+  pub session : session (firstSession .state) nodes versions tally ≡ firstSession
+  pub page : room ≤ length out

@@ -1,10 +1,10 @@
 // Input: pieces of any size, in which a command may be cut.
 ghost use Prim.Native.Nat.{_-_, _≤_};
 ghost use mathlib.Core.Path.{_≡_};
-ghost use lib.ListN.{length, take, drop};
+ghost use lib.ListN.{length, drop};
 ghost use lib.Seq.{paste};
 ghost use Rattle.interpreter.specs.declared.types.Needs.{Needs};
-ghost use Rattle.sheet.specs.Runs.{heldIn, Ready, Supplied, InRoom, tookOf};
+ghost use Rattle.sheet.specs.Runs.{Ready, Supplied, InRoom, tookOf, Refilled};
 use crate::retry::read;
 use crate::types::Input;
 use crate::types::Run;
@@ -70,7 +70,7 @@ pub fn refill(r: Run, bytes: &mut [u8]) -> Run
     requires { ⌜ r .needs ≡ Needs.Bytes ⌝ }
     ensures { λ q. ⌜ Ready q (length (now (bytes .entry))) ⌝ }
     ensures { λ q. ⌜ Supplied q ⌝ }
-    ensures { λ q. ⌜ take (length (heldIn r (now (bytes .entry)))) (heldIn q (now (bytes .exit))) ≡ heldIn r (now (bytes .entry)) ⌝ }
+    ensures { λ q. ⌜ Refilled r q (now (bytes .entry)) (now (bytes .exit)) ⌝ }
 {
     let state = r.state;
     let held = shift(bytes, r.from, r.end);

@@ -1,11 +1,12 @@
-// Turns: what is held is played, a page of lines at a time, and the page is written.
-ghost use Prim.Native.Nat.{ℕ, _≤_};
+// Rounds: more bytes where they are needed, a page of lines of what is held, and the page is written.
+ghost use Prim.Native.Nat.{_≤_};
+ghost use mathlib.Core.Bool.{true};
 ghost use mathlib.Core.Path.{_≡_};
 ghost use lib.ListN.{length};
 ghost use Rattle.decoder.specs.Commands.{longestCommand};
-ghost use Rattle.interpreter.specs.declared.types.Needs.{Needs};
-ghost use Rattle.interpreter.specs.Turns.{isOver};
-ghost use Rattle.sheet.specs.Runs.{InBuffer, Ready, Supplied, firstRun, pageOf, done, pageDone};
+ghost use Rattle.interpreter.specs.Rounds.{isOver};
+ghost use Rattle.sheet.specs.Runs.{InBuffer, Ready, Supplied, firstRun, settled, memory, playedOf};
+ghost use Rattle.sheet.specs.Runs.{Supplies, Plays, Runs, Lends};
 use crate::input::refill;
 use crate::retry::write;
 use crate::types::Run;
@@ -25,9 +26,9 @@ fn play_page(
 ) -> Run
     requires { ⌜ InBuffer r (length (now bytes)) ⌝ }
     requires { ⌜ longestCommand ≤ length (now bytes) ⌝ }
-    ensures { λ q. ⌜ done q (now (nodes .exit)) (now (versions .exit)) (now (tally .exit)) (now (out .exit))
-        ≡ pageDone r
-        (pageOf r (now (bytes .entry)) (now (nodes .entry)) (now (versions .entry)) (now (tally .entry)) (now (out .entry))) ⌝ }
+    ensures { λ q. ⌜ memory q (now (bytes .entry)) (now (nodes .exit)) (now (versions .exit)) (now (tally .exit)) (now (out .exit))
+        ≡ playedOf
+        (memory r (now (bytes .entry)) (now (nodes .entry)) (now (versions .entry)) (now (tally .entry)) (now (out .entry))) true ⌝ }
     ensures { λ q. ⌜ Ready q (length (now (bytes .entry))) ⌝ }
     ensures { λ q. ⌜ q .next ≤ length (now (out .entry)) ⌝ }
 {
@@ -61,11 +62,13 @@ fn play_page(
     }
 }
 
-// A run that goes no further.
-fn stop(r: Run) -> Run
-    ensures { λ q. ⌜ q .needs ≡ Needs.Over ⌝ }
-    ensures { λ q. ⌜ ((size : ℕ) → InBuffer r size → Ready q size) ⌝ }
+// A write that fails ends the run.
+fn settle(written: bool, r: Run) -> Run
+    ensures { λ q. ⌜ q ≡ settled written r ⌝ }
 {
+    if written {
+        return r;
+    }
     let state = r.state;
     Run {
         state,
@@ -82,6 +85,7 @@ fn supply(r: Run, bytes: &mut [u8]) -> Run
     requires { ⌜ Ready r (length (now bytes)) ⌝ }
     ensures { λ q. ⌜ Ready q (length (now (bytes .entry))) ⌝ }
     ensures { λ q. ⌜ Supplied q ⌝ }
+    ensures { λ q. ⌜ Supplies r q (now (bytes .entry)) (now (bytes .exit)) ⌝ }
 {
     let needs = r.needs;
     match needs {
@@ -103,8 +107,8 @@ fn is_over(needs: Needs) -> bool
     }
 }
 
-// One turn: a page of what can be played, and its lines written. A write that fails ends the run.
-fn turn(
+// One round: a page of what can be played, and its lines written.
+fn round(
     r: Run,
     bytes: &[u8],
     nodes: &mut [u32],
@@ -116,13 +120,14 @@ fn turn(
     requires { ⌜ Supplied r ⌝ }
     requires { ⌜ longestCommand ≤ length (now bytes) ⌝ }
     ensures { λ q. ⌜ Ready q (length (now (bytes .entry))) ⌝ }
+    ensures { λ q. ⌜ Plays
+        (memory r (now (bytes .entry)) (now (nodes .entry)) (now (versions .entry)) (now (tally .entry)) (now (out .entry)))
+        (memory q (now (bytes .entry)) (now (nodes .exit)) (now (versions .exit)) (now (tally .exit)) (now (out .exit))) ⌝ }
 {
     let q = play_page(r, bytes, nodes, versions, tally, out);
     let next = q.next;
-    if !write(&out[..next]) {
-        return stop(q);
-    }
-    q
+    let written = write(&out[..next]);
+    settle(written, q)
 }
 
 // Nothing is read yet.
@@ -139,7 +144,7 @@ fn first() -> Run
     }
 }
 
-// Turn after turn, until the run is over. It counts its turns down from a number that no run uses up.
+// Round after round, until the run is over. It counts its rounds down from a number that no run uses up.
 pub fn run(
     bytes: &mut [u8],
     nodes: &mut [u32],
@@ -148,18 +153,21 @@ pub fn run(
     out: &mut [u8],
 ) -> Run
     requires { ⌜ longestCommand ≤ length (now bytes) ⌝ }
-    ensures { λ r. ⌜ r .needs ≡ Needs.Over ⌝ }
+    requires { ⌜ Lends (now nodes) (now versions) (now tally) (now out) ⌝ }
+    ensures { λ r. ⌜ Runs
+        (memory firstRun (now (bytes .entry)) (now (nodes .entry)) (now (versions .entry)) (now (tally .entry)) (now (out .entry)))
+        (memory r (now (bytes .exit)) (now (nodes .exit)) (now (versions .exit)) (now (tally .exit)) (now (out .exit))) ⌝ }
 {
     let mut at = first();
-    let mut turns = u64::MAX;
-    while 0 < turns {
+    let mut rounds = u64::MAX;
+    while 0 < rounds {
         at = supply(at, bytes);
         let needs = at.needs;
         if is_over(needs) {
             return at;
         }
-        at = turn(at, bytes, nodes, versions, tally, out);
-        turns -= 1;
+        at = round(at, bytes, nodes, versions, tally, out);
+        rounds -= 1;
     }
-    stop(at)
+    at
 }

@@ -10,7 +10,7 @@ use libc::STDIN_FILENO;
 use libc::STDOUT_FILENO;
 
 // Whether a call that failed is to be made again: a signal came before a byte was moved, or a descriptor that does not wait
-// has nothing yet, or no room yet. Then other programs have their turn first.
+// has nothing yet, or no room yet. Then other programs have their round first.
 fn again() -> bool {
     let error = os::errno();
     if error == EAGAIN {
@@ -48,15 +48,15 @@ pub fn read(buf: &mut [u8]) -> Input
         }
         if !again() {
             os::fail(b"sheet: standard input");
-            return Input::Failed;
+            return input(got, buf);
         }
         tries -= 1;
     }
     Input::Failed
 }
 
-// One write from `done` on, tried again as a read is; the answer is where the bytes that are written end, or nothing more
-// where it failed.
+// One write from `done` on, tried again as a read is, and where it took no byte. The answer is where the bytes end that are
+// written then: `done` itself where it failed.
 fn write_from(out: &[u8], done: usize) -> usize
     requires { ⌜ done ≤ length (now out) ⌝ }
     ensures { λ r. ⌜ r ≤ length (now (out .entry)) ⌝ }
@@ -64,11 +64,13 @@ fn write_from(out: &[u8], done: usize) -> usize
     let mut tries = u64::MAX;
     while 0 < tries {
         let put = libc::write(STDOUT_FILENO, &out[done..]);
-        if 0 <= put {
+        if 0 < put {
             return done + io::count(put, &out[done..]);
         }
-        if !again() {
-            return done;
+        if put < 0 {
+            if !again() {
+                return done;
+            }
         }
         tries -= 1;
     }

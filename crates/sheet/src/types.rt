@@ -2,7 +2,7 @@
 use interpreter::types::Needs;
 use model::types::State;
 
-// A run between two turns: the store's state, where the bytes that were read and not played begin and end, whether the input
+// A run between two rounds: the store's state, where the bytes that were read and not played begin and end, whether the input
 // has ended with them, where the lines of its page end, and what the run needs.
 pub struct Run {
     pub state: State,

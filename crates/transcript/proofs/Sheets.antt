@@ -14,6 +14,7 @@ use Rattle.model.specs.Linearizability.{Claim, EffectsStay}
 use Rattle.model.proofs.Tests.{if-by}
 use Rattle.buffers.specs.Session.{Session, Done, openedOn, openOn, callOn}
 use Rattle.executor.specs.Perform.{opens, performOf, AllDone, performedAll}
+use Rattle.interpreter.specs.Sheet.{sheetOf}
 use Rattle.transcript.specs.Types.{Command, Open, Put, Get, Step, Look, Inspect, Line, Refusal, NotOpen, Permit, Granted, Denied}
 use Rattle.transcript.specs.Meanings.{openMeant}
 use Rattle.transcript.specs.BySheet.{BufferLengths, Asked, fittingFor, bySheet}
@@ -167,7 +168,9 @@ performed-append w (c ∷ rest) more =
     ap (λ (r : AllDone). record { lines = d .line ∷ r .lines; session = r .session }) (performed-append (d .session) rest more)
 
 pub sheet-linearizable : SheetLinearizable
+unfolding sheetOf
 sheet-linearizable = record {
+  prints = λ bytes. refl;
   begins = first-lengths;
   parts = performed-append;
   lines-tell = line-again;

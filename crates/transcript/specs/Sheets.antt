@@ -12,7 +12,7 @@ use Rattle.model.specs.Linearizability.{All, Claim, EffectsStay, OpensAs}
 use Rattle.lines.specs.Outcomes.{openLine, startLine, stepLine, lookLine, inspectLine}
 use Rattle.buffers.specs.Session.{Session}
 use Rattle.executor.specs.Perform.{opens, performOf, AllDone, performedAll}
-use Rattle.interpreter.specs.Sheet.{firstSession}
+use Rattle.interpreter.specs.Sheet.{scriptOf, firstSession, sheetOf}
 use Rattle.transcript.specs.Types.{Command, Open, Put, Get, Step, Look, Inspect, Line, Refusal, NotOpen}
 use Rattle.transcript.specs.Meanings.{openMeant, startMeant, stepMeant, lookMeant, inspectMeant}
 use Rattle.transcript.specs.BySheet.{BufferLengths, fittingFor, opensByLine, bySheet}
@@ -86,10 +86,12 @@ pub record BetweenOpens (w : Session) (k v p limit : ℕ) (commands : List Comma
       → EffectsStay (runOf p limit commands (performedAll w commands))
       (runOf p limit (commands ++ more) (performedAll w (commands ++ more)))
 
--- What the commands of any sheet do between two opens is a list of demand 3: those of `scriptOf` its bytes, whose lines
--- `sheetOf` has, from `firstSession` on.
+-- What the commands of any sheet do between two opens is a list of demand 3.
 pub record SheetLinearizable : Type 0 where
-  -- a sheet begins in buffers of the lent lengths, so that whatever it has played is `Reached`
+  -- a sheet prints the lines of its commands from the first session on, and then what ends it
+  pub prints : (bytes : List ℕ)
+      → let s = scriptOf bytes in sheetOf bytes ≡ performedAll firstSession (s .commands) .lines ++ s .ending
+  -- that session has buffers of the lent lengths, so that whatever a sheet has played is `Reached`
   pub begins : BufferLengths firstSession
   -- what follows a part of a sheet begins with the session that the part left, and its lines follow
   pub parts : (w : Session) (commands more : List Command)

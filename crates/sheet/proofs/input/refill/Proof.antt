@@ -1,9 +1,10 @@
 -- The bytes held are at the front again, and what was read lies behind them.
 use Prim.Native.Nat.{_-_}
-use mathlib.Core.Path.{subst}
+use mathlib.Core.Path.{refl, subst}
 use lib.ListN.{length}
+use borrow.Rule.Slice.PartMut.{putMid}
 use Rattle.sheet.specs.Runs.{Ready}
-use Rattle.sheet.proofs.Refilling.{kept, room-behind}
+use Rattle.sheet.proofs.Refilling.{refilled, room-behind}
 use borrow.Author.Needs.{needs}
 use Rattle.sheet.proofs.input.refill.Statement.{statement}
 use Rattle.sheet.proofs.input.refill.Tie as tie
@@ -37,13 +38,15 @@ returns c =
     let t = c .took .ensures in
     let s = c .before .before .before .before .before .before .before .before .shift in
     let a = c .before .before .before .before .before .before .before .before .before .before .before .before in
-    let r = c .before .before .before .before .read in
+    let rest = c .before .before .before .before .read .last .0 in
+    let inside = a .pre .0 .inside in
     let k = length (s .last .0) - s .result in (
       subst (Ready (c .took .result)) (same-length c) (t .1 .0),
       (
         t .1 .1,
-        kept (a .args .bytes .now) _ _ (a .pre .0 .inside .from) (a .pre .0 .inside .end) k (r .last .0) (a .args .r .state)
-            (r .result) (s .result) (s .last .0) (c .took .result) (s .ensures .0) (s .ensures .1) (t .0),
+        refilled (a .args .bytes .now) (a .args .r .from) (a .args .r .end) (inside .from) (inside .end) (a .args .r) refl refl
+            (s .result) k (s .last .0) rest (putMid (s .result) k (s .last .0) rest) (c .took .result)
+            (c .before .before .before .before .read .result) (s .ensures .0) (s .ensures .1) refl refl (t .0),
       ),
     )
 

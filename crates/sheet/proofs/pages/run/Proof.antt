@@ -1,21 +1,23 @@
--- Between two turns the run is ready for the next.
+-- The rounds made so far are those of the definition, and the run is ready for the next.
 use mathlib.Core.Path.{_≡_, refl, sym, subst, _∙_}
 use native.Mathlib.Omega.{arith}
 use lib.ListN.{length}
 use borrow.Author.Needs.{needs}
 use Rattle.sheet.specs.declared.types.Run.{Run}
-use Rattle.sheet.specs.Runs.{Ready}
-use Rattle.sheet.proofs.Standing.{first-ready, is-over}
+use Rattle.sheet.specs.Runs.{Ready, firstRun, memory, Ran}
+use Rattle.sheet.proofs.Standing.{first-ready}
+use Rattle.sheet.proofs.Running.{none-made, next-round, last-round, all-made}
 use Rattle.sheet.proofs.pages.run.Statement.{statement}
 use Rattle.sheet.proofs.pages.run.Tie as tie
 
 abbrev Inv-loop : tie.InvT-loop
-Inv-loop bytes₀ nodes₀ versions₀ tally₀ out₀ at₀ turns₀ bytes nodes versions tally out at turns =
+Inv-loop bytes₀ nodes₀ versions₀ tally₀ out₀ at₀ rounds₀ bytes nodes versions tally out at rounds =
     (length bytes ≡ length bytes₀) × (length nodes ≡ length nodes₀) × (length versions ≡ length versions₀)
     × (length tally ≡ length tally₀) × (length out ≡ length out₀) × Ready at (length bytes)
+    × Ran (memory firstRun bytes₀ nodes₀ versions₀ tally₀ out₀) (memory at bytes nodes versions tally out) rounds rounds₀
 
 abbrev μ-loop : tie.MeasureT-loop
-μ-loop bytes₀ nodes₀ versions₀ tally₀ out₀ at₀ turns₀ bytes nodes versions tally out at turns = turns
+μ-loop bytes₀ nodes₀ versions₀ tally₀ out₀ at₀ rounds₀ bytes nodes versions tally out at rounds = rounds
 
 first-requires : tie.Need-first-requires Inv-loop μ-loop
 first-requires c κs = search needs
@@ -24,7 +26,8 @@ loop-holds : tie.Need-loop-holds Inv-loop μ-loop
 loop-holds c =
     let start = c .before .before .before .before .before .before in
     let size = length (start .args .bytes .now) in
-    (refl, refl, refl, refl, refl, subst (λ (r : Run). Ready r size) (sym (c .first .ensures)) (first-ready size (start .pre)))
+    let ready = subst (λ (r : Run). Ready r size) (sym (c .first .ensures)) (first-ready size (start .pre .0)) in
+    (refl, refl, refl, refl, refl, ready, none-made _ _ _ _ _ _ _ (c .first .ensures))
 
 supply-requires : tie.Need-supply-requires Inv-loop μ-loop
 supply-requires c κs = c .before .before .loop .inv .5
@@ -48,18 +51,22 @@ same-length-5 : tie.Need-same-length-5 Inv-loop μ-loop
 same-length-5 c = search needs
 
 returns : tie.Need-returns Inv-loop μ-loop
-returns c = is-over _ (sym (c .before .is-over .ensures) ∙ c .if1 .taken)
+returns c =
+    let l = c .before .before .before .before .before .before .before .loop .inv in
+    let s = c .before .before .before .before .supply .ensures .1 .1 in
+    let over = sym (c .before .is-over .ensures) ∙ c .if1 .taken in
+    last-round _ _ _ _ (l .6) _ (s .input) (s .behind) (s .same _ _ _ _) over
 
-turn-requires : tie.Need-turn-requires Inv-loop μ-loop
-turn-requires c κs =
+round-requires : tie.Need-round-requires Inv-loop μ-loop
+round-requires c κs =
     let s = c .before .before .before .before .before .before .before .before .before .supply in
     let l = c .before .before .before .before .before .before .before .before .before .before .before .before .loop .inv in
-    let size = c .before .before .before .before .before .before .before .before .before .before .before .before .before
-    .before .before .before .before .before .before .pre in
-    (search needs, (s .ensures .1, omega (arith, size, l .0, s .kept)))
+    let size = c .before .before .before .before .before .before .before .before .before .before .before .before
+    .before .before .before .before .before .before .before .pre .0 in
+    (search needs, (s .ensures .1 .0, omega (arith, size, l .0, s .kept)))
 
-sub-turns : tie.Need-sub-turns Inv-loop μ-loop
-sub-turns c = search needs
+sub-rounds : tie.Need-sub-rounds Inv-loop μ-loop
+sub-rounds c = search needs
 
 loop-less : tie.Need-loop-less Inv-loop μ-loop
 loop-less c = search needs
@@ -67,18 +74,23 @@ loop-less c = search needs
 loop-again : tie.Need-loop-again Inv-loop μ-loop
 loop-again c =
     let l = c .before .before .before .before .before .before .before .before .before .before .before .before .before
-    .before .before .before .before .before .before .before .before .loop .inv in (
+    .before .before .before .before .before .before .before .before .loop .inv in
+    let s = c .before .before .before .before .before .before .before .before .before .before .before .before .before
+    .before .before .before .before .before .supply .ensures .1 .1 in
+    let p = c .before .before .before .before .before .before .before .before .round .ensures in
+    let less = c .before .before .before .before .before .before .before .before .before .before .before .before
+    .before .before .before .before .before .before .before .before .loop-test .taken in
+    let on = sym (c .before .before .before .before .before .before .before .before .before .before .before .before
+    .before .before .before .is-over .ensures) ∙ c .before .before .before .before .before .before .before .before
+    .before .before .before .before .before .before .if1 .left in (
       search needs,
       search needs,
       search needs,
       search needs,
       search needs,
-      c .before .before .before .before .before
-          .before .before .before .turn .ensures,
+      p .0,
+      next-round _ _ _ _ (l .6) _ (s .input) (s .behind) (s .same _ _ _ _) _ less on (p .1),
     )
-
-stop-requires : tie.Need-stop-requires Inv-loop μ-loop
-stop-requires c κs = search needs
 
 same-length-6 : tie.Need-same-length-6 Inv-loop μ-loop
 same-length-6 c = search needs
@@ -96,7 +108,7 @@ same-length-10 : tie.Need-same-length-10 Inv-loop μ-loop
 same-length-10 c = search needs
 
 returns-2 : tie.Need-returns-2 Inv-loop μ-loop
-returns-2 c = search needs
+returns-2 c = all-made _ _ _ (omega (arith, c .loop-test .left)) (c .before .loop .inv .6)
 
 pub run-spec : {M : Type 1} → statement M
 run-spec =
@@ -114,11 +126,10 @@ run-spec =
     same-length-4
     same-length-5
     returns
-    turn-requires
-    sub-turns
+    round-requires
+    sub-rounds
     loop-less
     loop-again
-    stop-requires
     same-length-6
     same-length-7
     same-length-8

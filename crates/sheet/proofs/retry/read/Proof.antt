@@ -36,11 +36,14 @@ slice-aggregate-fail c = search needs
 fail-requires : tie.Need-fail-requires Inv-loop μ-loop
 fail-requires c κs = search needs
 
+input-requires-2 : tie.Need-input-requires-2 Inv-loop μ-loop
+input-requires-2 c κs = search needs
+
 same-length-2 : tie.Need-same-length-2 Inv-loop μ-loop
 same-length-2 c = search needs
 
 returns-2 : tie.Need-returns-2 Inv-loop μ-loop
-returns-2 c = search needs
+returns-2 c = subst (λ n. InRoom n (c .input2 .result)) (same-length-2 c) (c .input2 .ensures .1)
 
 sub-tries : tie.Need-sub-tries Inv-loop μ-loop
 sub-tries c = search needs
@@ -71,6 +74,7 @@ read-spec =
     again-requires
     slice-aggregate-fail
     fail-requires
+    input-requires-2
     same-length-2
     returns-2
     sub-tries

@@ -1,10 +1,11 @@
--- What is written is the page up to where its lines end.
+-- What is written is the page up to where its lines end, and whether it could be decides.
 use mathlib.Core.Path.{sym}
 use native.Mathlib.Omega.{arith}
 use lib.Seq.{length-take-le}
+use Rattle.sheet.proofs.Running.{settled-ready, settled-plays}
 use borrow.Author.Needs.{needs}
-use Rattle.sheet.proofs.pages.turn.Statement.{statement}
-use Rattle.sheet.proofs.pages.turn.Tie as tie
+use Rattle.sheet.proofs.pages.round.Statement.{statement}
+use Rattle.sheet.proofs.pages.round.Tie as tie
 
 play-page-requires : tie.Need-play-page-requires
 play-page-requires c κs = search needs
@@ -20,8 +21,8 @@ slice-aggregate-write c =
 write-requires : tie.Need-write-requires
 write-requires c κs = search needs
 
-stop-requires : tie.Need-stop-requires
-stop-requires c κs = search needs
+settle-requires : tie.Need-settle-requires
+settle-requires c κs = search needs
 
 same-length : tie.Need-same-length
 same-length c = search needs
@@ -36,40 +37,23 @@ same-length-4 : tie.Need-same-length-4
 same-length-4 c = search needs
 
 returns : tie.Need-returns
-returns c = c .stop .ensures .1 _ (c .before .before .before .before .before .before .before .before .before .before
-    .before .before .play-page .ensures .1 .0 .inside)
+returns c =
+    let p = c .before .before .before .before .before .before .before .before .before .before .before .play-page in
+    let e = c .settle .ensures in
+    let w = c .before .write .result in
+    (settled-ready w _ _ _ e (p .ensures .1 .0), settled-plays _ w (p .result) _ _ _ _ _ _ (p .ensures .0) e (p .ensures .1 .1))
 
-same-length-5 : tie.Need-same-length-5
-same-length-5 c = search needs
-
-same-length-6 : tie.Need-same-length-6
-same-length-6 c = search needs
-
-same-length-7 : tie.Need-same-length-7
-same-length-7 c = search needs
-
-same-length-8 : tie.Need-same-length-8
-same-length-8 c = search needs
-
-returns-2 : tie.Need-returns-2
-returns-2 c = search needs
-
-pub turn-spec : {M : Type 1} → statement M
-turn-spec =
+pub round-spec : {M : Type 1} → statement M
+round-spec =
     tie.close
     (tie.spec
     play-page-requires
     slice-reshare-prefix-write
     slice-aggregate-write
     write-requires
-    stop-requires
+    settle-requires
     same-length
     same-length-2
     same-length-3
     same-length-4
-    returns
-    same-length-5
-    same-length-6
-    same-length-7
-    same-length-8
-    returns-2)
+    returns)
