@@ -11,9 +11,8 @@ use borrow.Author.Tests.{eqb-true}
 use Rattle.model.specs.Choice.{if_then_else_}
 use Rattle.model.specs.Linearizability.{All}
 use Rattle.printer.specs.Lines.{text}
-use Rattle.interpreter.specs.declared.types.Needs.{Needs}
 use Rattle.interpreter.specs.Sheet.{scriptOf, linesFrom, sheetOf}
-use Rattle.interpreter.specs.Playing.{Playing, playOf}
+use Rattle.interpreter.specs.Playing.{Playing, onPage, playOf}
 use Rattle.interpreter.specs.Rounds.{Round, Run, isOver, heldAt, unreadAt, endedAt, playedAt, printedOn, after, roundOf}
 use Rattle.interpreter.specs.Rounds.{runFrom, unplayed, Holds, due, Ready, InRounds}
 use Rattle.interpreter.proofs.Printed.{Keeps, keeps}
@@ -30,7 +29,7 @@ whole r = r .printed ++ due r
 
 -- where a round begins
 abbrev begun : Run → Round → Playing
-begun r t = record { session = r .session; read = 0; page = record { bytes = t .page; next = 0 }; needs = Needs.Nothing }
+begun r t = onPage (r .session) (t .page)
 
 module _ (r : Run) (t : Round) where
   abbrev q : Playing

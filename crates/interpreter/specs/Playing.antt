@@ -33,6 +33,10 @@ playing r nodes versions tally out = record {
   needs = r .needs;
 }
 
+-- at the start of its bytes and of a page
+abbrev pub onPage : Session → (page : List ℕ) → Playing
+onPage w page = record { session = w; read = 0; page = record { bytes = page; next = 0 }; needs = Needs.Nothing }
+
 -- a run within its bytes and its page
 pub record Within (p : Played) (bytes out : List ℕ) : Type 0 where
   pub read : p .read ≤ length bytes

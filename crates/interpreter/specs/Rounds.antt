@@ -12,7 +12,7 @@ use Rattle.printer.specs.Lines.{text, room, Page}
 use Rattle.buffers.specs.Session.{Session}
 use Rattle.interpreter.specs.declared.types.Needs.{Needs}
 use Rattle.interpreter.specs.Sheet.{scriptOf, linesFrom, firstSession, sheetOf}
-use Rattle.interpreter.specs.Playing.{Playing, playOf}
+use Rattle.interpreter.specs.Playing.{Playing, onPage, playOf}
 
 -- ---- rounds
 
@@ -48,12 +48,7 @@ endedAt r t = t .looks && eqb (length (unreadAt r t)) 0
 
 -- what is played at a round
 unfoldable pub playedAt : Run → Round → Playing
-playedAt r t = playOf (heldAt r t) (endedAt r t) (record {
-  session = r .session;
-  read = 0;
-  page = record { bytes = t .page; next = 0 };
-  needs = Needs.Nothing;
-})
+playedAt r t = playOf (heldAt r t) (endedAt r t) (onPage (r .session) (t .page))
 
 abbrev pub printedOn : Page → List ℕ
 printedOn page = take (page .next) (page .bytes)

@@ -11,16 +11,15 @@ use Rattle.printer.specs.Lines.{text}
 use Rattle.buffers.specs.Session.{Session, session}
 use Rattle.interpreter.specs.declared.types.Needs.{Needs}
 use Rattle.interpreter.specs.Sheet.{firstSession, sheetOf}
-use Rattle.interpreter.specs.Playing.{Playing, playOf}
+use Rattle.interpreter.specs.Playing.{Playing, onPage, playOf}
 use Rattle.interpreter.specs.Rounds as Rounds
 use Rattle.interpreter.specs.Rounds.{Round, isOver, heldAt, unreadAt, endedAt, playedAt, after, runFrom, unplayed, Holds, due}
 use Rattle.interpreter.proofs.Progress.{all-advances}
 use Rattle.interpreter.proofs.Rounds.{in-rounds}
 use Rattle.sheet.specs.declared.types.Input.{Input}
 use Rattle.sheet.specs.Runs.{heldIn, InBuffer, pageOf, Memory, Answers, suppliedBy, suppliedOf, playedOf}
-use Rattle.sheet.specs.Runs.{roundOf, roundsFrom, PagesHold}
-use Rattle.sheet.specs.Prints.{suppliedAt, printedIn, writtenIn, writtenBy, broughtBy, ReadsOn, Honest}
-use Rattle.sheet.specs.Prints.{firstMemory, ProgramPrints}
+use Rattle.sheet.specs.Runs.{firstMemory, suppliedAt, roundOf, roundsFrom, PagesHold}
+use Rattle.sheet.specs.Prints.{printedIn, writtenIn, writtenBy, broughtBy, ReadsOn, Honest, ProgramPrints}
 use Rattle.sheet.proofs.Standing.{is-over}
 use Rattle.sheet.proofs.Paging.{held-long, still-held}
 
@@ -92,7 +91,7 @@ module _ (m : Memory) (s : Rounds.Run) (count : ℕ) (f : Stands m s count) wher
   page = pageOf (m .run) (m .bytes) (m .nodes) (m .versions) (m .tally) (m .out)
 
   abbrev begun : Session → Playing
-  begun w = record { session = w; read = 0; page = record { bytes = m .out; next = 0 }; needs = Needs.Nothing }
+  begun w = onPage w (m .out)
 
   same-end : m .run .ended ≡ endedAt s round
   same-end = by (m .run .ended) (f .ended)

@@ -11,7 +11,7 @@ use Rattle.sheet.specs.declared.types.Input.{Input}
 use Rattle.sheet.specs.declared.types.Run.{Run}
 use Rattle.sheet.specs.Runs.{Ready, firstRun, tookOf, settled, Memory, memory, Answers}
 use Rattle.sheet.specs.Runs.{suppliedBy, suppliedOf, playedOf, roundOf, roundsFrom}
-use Rattle.sheet.specs.Runs.{PageHolds, PagesHold, Refilled, Supplies, Plays, Ran, Runs}
+use Rattle.sheet.specs.Runs.{PageHolds, PagesHold, Refilled, Supplies, Plays, mostRounds, Runs}
 use Rattle.sheet.proofs.Standing.{over, is-over}
 
 -- ---- a write
@@ -68,6 +68,13 @@ module _ (r : Run) (bytes : List ℕ) where
 
 -- ---- rounds
 
+-- so many rounds, of so many that can be made
+pub record Ran (m m′ : Memory) (left all : ℕ) : Type 0 where
+  pub answers : List Answers
+  pub same : m′ ≡ roundsFrom m answers
+  pub holds : PagesHold m answers
+  pub count : length answers + left ≡ all
+
 snoc : (m : Memory) (answers : List Answers) (a : Answers) → roundsFrom m (answers ++ (a ∷ [])) ≡ roundOf (roundsFrom m answers) a
 unfolding roundsFrom
 snoc m [] a = refl
@@ -123,5 +130,10 @@ module _ (m₀ m : Memory) (left all : ℕ) (ran : Ran m₀ m left all) where
       over = λ n. absurd (n (is-over (m′ .run .needs) o));
     }
 
-pub all-made : (m₀ m : Memory) (left : ℕ) → left ≡ 0 → Ran m₀ m left 18_446_744_073_709_551_615 → Runs m₀ m
-all-made m₀ m left z ran = record { answers = ran .answers; same = ran .same; holds = ran .holds; over = λ n. omega (arith, z, ran .count) }
+pub all-made : (m₀ m : Memory) (left : ℕ) → left ≡ 0 → Ran m₀ m left mostRounds → Runs m₀ m
+all-made m₀ m left z ran = record {
+  answers = ran .answers;
+  same = ran .same;
+  holds = ran .holds;
+  over = λ n. omega (arith, z, ran .count);
+}

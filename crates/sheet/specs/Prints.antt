@@ -1,4 +1,4 @@
--- What the program writes, where the system reads it the sheet from its front on and takes its pages: what the sheet prints.
+-- What the program writes where its reads bring the sheet from its front on and its pages are taken: what the sheet prints.
 use Prim.Native.Nat.{ℕ, _≤_}
 use mathlib.Core.Bool.{true, false}
 use mathlib.Core.List.{List, [], _∷_, _++_}
@@ -11,13 +11,9 @@ use Rattle.interpreter.specs.declared.types.Needs.{Needs}
 use Rattle.interpreter.specs.Sheet.{firstSession, sheetOf}
 use Rattle.interpreter.specs.Rounds.{isOver}
 use Rattle.sheet.specs.declared.types.Input.{Input}
-use Rattle.sheet.specs.Runs.{firstRun, Memory, memory, Answers, suppliedOf, playedOf, roundOf, roundsFrom, PagesHold}
+use Rattle.sheet.specs.Runs.{Memory, firstMemory, Answers, suppliedAt, playedOf, roundOf, roundsFrom, PagesHold}
 
 -- ---- what is written
-
--- the memory of a round, with what a read brought
-abbrev pub suppliedAt : Memory → Answers → Memory
-suppliedAt m a = suppliedOf m (a .input) (a .behind)
 
 -- the part of a page that is printed
 abbrev pub printedIn : Memory → List ℕ
@@ -63,10 +59,6 @@ Honest m unread (a ∷ answers) =
     × Honest (roundOf m a) (drop (broughtBy (m .run .needs) (a .input)) unread) answers
 
 -- ---- the theorem
-
--- where a run begins
-abbrev pub firstMemory : (bytes nodes versions tally out : List ℕ) → Memory
-firstMemory bytes nodes versions tally out = memory firstRun bytes nodes versions tally out
 
 -- Of the rounds that `run` promises: `Runs` has their answers, and that the pages hold what is printed on them; `Lends` has the
 -- first session.

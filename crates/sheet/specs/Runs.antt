@@ -13,7 +13,7 @@ use Rattle.printer.specs.Lines.{room}
 use Rattle.buffers.specs.Session.{session}
 use Rattle.interpreter.specs.declared.types.Needs.{Needs}
 use Rattle.interpreter.specs.Sheet.{firstSession}
-use Rattle.interpreter.specs.Playing.{Playing, playOf}
+use Rattle.interpreter.specs.Playing.{Playing, onPage, playOf}
 use Rattle.interpreter.specs.Rounds.{isOver}
 use Rattle.sheet.specs.declared.types.Input.{Input}
 use Rattle.sheet.specs.declared.types.Run.{Run}
@@ -63,12 +63,7 @@ tookOf s held Input.Failed = record { state = s; from = 0; end = held; ended = f
 
 -- what is played of the bytes held, on an empty page
 abbrev pub pageOf : Run → (bytes nodes versions tally out : List ℕ) → Playing
-pageOf r bytes nodes versions tally out = playOf (heldIn r bytes) (r .ended) (record {
-  session = session (r .state) nodes versions tally;
-  read = 0;
-  page = record { bytes = out; next = 0 };
-  needs = Needs.Nothing;
-})
+pageOf r bytes nodes versions tally out = playOf (heldIn r bytes) (r .ended) (onPage (session (r .state) nodes versions tally) out)
 
 -- the run after a page
 abbrev pub paged : Run → Playing → Run
@@ -104,6 +99,10 @@ abbrev pub memory : Run → (bytes nodes versions tally out : List ℕ) → Memo
 memory r bytes nodes versions tally out =
     record { run = r; bytes = bytes; nodes = nodes; versions = versions; tally = tally; out = out }
 
+-- before the first read
+abbrev pub firstMemory : (bytes nodes versions tally out : List ℕ) → Memory
+firstMemory bytes nodes versions tally out = memory firstRun bytes nodes versions tally out
+
 -- what the system answers in a round: what a read brings, where bytes are needed, what then stands in the buffer behind those
 -- held, and whether the page could be written
 pub record Answers : Type 0 where
@@ -123,6 +122,9 @@ suppliedBy Needs.Over m i behind = m
 unfoldable pub suppliedOf : Memory → Input → (behind : List ℕ) → Memory
 suppliedOf m i behind = suppliedBy (m .run .needs) m i behind
 
+abbrev pub suppliedAt : Memory → Answers → Memory
+suppliedAt m a = suppliedOf m (a .input) (a .behind)
+
 -- a page of what is held
 unfoldable pub playedOf : Memory → (written : Bool) → Memory
 playedOf m written =
@@ -130,9 +132,10 @@ playedOf m written =
     memory (settled written (paged (m .run) p)) (m .bytes) (p .session .nodes) (p .session .versions) (p .session .tally)
     (p .page .bytes)
 
+-- more bytes, then a page, if the run is not over
 unfoldable pub roundOf : Memory → Answers → Memory
 roundOf m a =
-    let s = suppliedOf m (a .input) (a .behind) in
+    let s = suppliedAt m a in
     if isOver (s .run .needs) then s else playedOf s (a .written)
 
 unfoldable pub roundsFrom : Memory → List Answers → Memory
@@ -142,7 +145,7 @@ roundsFrom m (a ∷ answers) = roundsFrom (roundOf m a) answers
 -- each page that is played holds what is printed on it
 abbrev pub PageHolds : Memory → Answers → Type 0
 PageHolds m a =
-    let s = suppliedOf m (a .input) (a .behind) in
+    let s = suppliedAt m a in
     isOver (s .run .needs) ≡ false → playedOf s true .run .next ≤ length (s .out)
 
 abbrev pub PagesHold : Memory → List Answers → Type 0
@@ -169,21 +172,18 @@ pub record Plays (m m′ : Memory) : Type 0 where
   pub same : m′ ≡ playedOf m written
   pub holds : playedOf m true .run .next ≤ length (m .out)
 
--- so many rounds, of so many that can be made
-pub record Ran (m m′ : Memory) (left all : ℕ) : Type 0 where
-  pub answers : List Answers
-  pub same : m′ ≡ roundsFrom m answers
-  pub holds : PagesHold m answers
-  pub count : length answers + left ≡ all
+-- more rounds than any run has: a proved loop has to end
+abbrev pub mostRounds : ℕ
+mostRounds = 18_446_744_073_709_551_615
 
--- a run ends when it is over; only if it made more rounds than any run has it ends before
+-- a run ends when it is over, or when so many rounds were made
 pub record Runs (m m′ : Memory) : Type 0 where
   pub answers : List Answers
   pub same : m′ ≡ roundsFrom m answers
   pub holds : PagesHold m answers
-  pub over : m′ .run .needs ≢ Needs.Over → length answers ≡ 18_446_744_073_709_551_615
+  pub over : m′ .run .needs ≢ Needs.Over → length answers ≡ mostRounds
 
--- what the program lends itself at first, and a page with room for a line
+-- what the program lends itself at first, and a page with room for a line: on a shorter one no line would ever be printed
 pub record Lends (nodes versions tally out : List ℕ) : Type 0 where
   pub session : session (firstSession .state) nodes versions tally ≡ firstSession
   pub page : room ≤ length out

@@ -5,7 +5,7 @@ ghost use mathlib.Core.Path.{_≡_};
 ghost use lib.ListN.{length};
 ghost use Rattle.decoder.specs.Commands.{longestCommand};
 ghost use Rattle.interpreter.specs.Rounds.{isOver};
-ghost use Rattle.sheet.specs.Runs.{InBuffer, Ready, Supplied, firstRun, settled, memory, playedOf};
+ghost use Rattle.sheet.specs.Runs.{InBuffer, Ready, Supplied, firstRun, settled, memory, firstMemory, playedOf};
 ghost use Rattle.sheet.specs.Runs.{Supplies, Plays, Runs, Lends};
 use crate::input::refill;
 use crate::retry::write;
@@ -107,8 +107,8 @@ fn is_over(needs: Needs) -> bool
     }
 }
 
-// One round: a page of what can be played, and its lines written.
-fn round(
+// A page of what can be played, and its lines written.
+fn print_page(
     r: Run,
     bytes: &[u8],
     nodes: &mut [u32],
@@ -155,7 +155,7 @@ pub fn run(
     requires { ⌜ longestCommand ≤ length (now bytes) ⌝ }
     requires { ⌜ Lends (now nodes) (now versions) (now tally) (now out) ⌝ }
     ensures { λ r. ⌜ Runs
-        (memory firstRun (now (bytes .entry)) (now (nodes .entry)) (now (versions .entry)) (now (tally .entry)) (now (out .entry)))
+        (firstMemory (now (bytes .entry)) (now (nodes .entry)) (now (versions .entry)) (now (tally .entry)) (now (out .entry)))
         (memory r (now (bytes .exit)) (now (nodes .exit)) (now (versions .exit)) (now (tally .exit)) (now (out .exit))) ⌝ }
 {
     let mut at = first();
@@ -166,7 +166,7 @@ pub fn run(
         if is_over(needs) {
             return at;
         }
-        at = round(at, bytes, nodes, versions, tally, out);
+        at = print_page(at, bytes, nodes, versions, tally, out);
         rounds -= 1;
     }
     at

@@ -4,9 +4,9 @@ use native.Mathlib.Omega.{arith}
 use lib.ListN.{length}
 use borrow.Author.Needs.{needs}
 use Rattle.sheet.specs.declared.types.Run.{Run}
-use Rattle.sheet.specs.Runs.{Ready, firstRun, memory, Ran}
+use Rattle.sheet.specs.Runs.{Ready, memory, firstMemory}
 use Rattle.sheet.proofs.Standing.{first-ready}
-use Rattle.sheet.proofs.Running.{none-made, next-round, last-round, all-made}
+use Rattle.sheet.proofs.Running.{Ran, none-made, next-round, last-round, all-made}
 use Rattle.sheet.proofs.pages.run.Statement.{statement}
 use Rattle.sheet.proofs.pages.run.Tie as tie
 
@@ -14,7 +14,7 @@ abbrev Inv-loop : tie.InvT-loop
 Inv-loop bytes₀ nodes₀ versions₀ tally₀ out₀ at₀ rounds₀ bytes nodes versions tally out at rounds =
     (length bytes ≡ length bytes₀) × (length nodes ≡ length nodes₀) × (length versions ≡ length versions₀)
     × (length tally ≡ length tally₀) × (length out ≡ length out₀) × Ready at (length bytes)
-    × Ran (memory firstRun bytes₀ nodes₀ versions₀ tally₀ out₀) (memory at bytes nodes versions tally out) rounds rounds₀
+    × Ran (firstMemory bytes₀ nodes₀ versions₀ tally₀ out₀) (memory at bytes nodes versions tally out) rounds rounds₀
 
 abbrev μ-loop : tie.MeasureT-loop
 μ-loop bytes₀ nodes₀ versions₀ tally₀ out₀ at₀ rounds₀ bytes nodes versions tally out at rounds = rounds
@@ -57,8 +57,8 @@ returns c =
     let over = sym (c .before .is-over .ensures) ∙ c .if1 .taken in
     last-round _ _ _ _ (l .6) _ (s .input) (s .behind) (s .same _ _ _ _) over
 
-round-requires : tie.Need-round-requires Inv-loop μ-loop
-round-requires c κs =
+print-page-requires : tie.Need-print-page-requires Inv-loop μ-loop
+print-page-requires c κs =
     let s = c .before .before .before .before .before .before .before .before .before .supply in
     let l = c .before .before .before .before .before .before .before .before .before .before .before .before .loop .inv in
     let size = c .before .before .before .before .before .before .before .before .before .before .before .before
@@ -77,7 +77,7 @@ loop-again c =
     .before .before .before .before .before .before .before .before .loop .inv in
     let s = c .before .before .before .before .before .before .before .before .before .before .before .before .before
     .before .before .before .before .before .supply .ensures .1 .1 in
-    let p = c .before .before .before .before .before .before .before .before .round .ensures in
+    let p = c .before .before .before .before .before .before .before .before .print-page .ensures in
     let less = c .before .before .before .before .before .before .before .before .before .before .before .before
     .before .before .before .before .before .before .before .before .loop-test .taken in
     let on = sym (c .before .before .before .before .before .before .before .before .before .before .before .before
@@ -126,7 +126,7 @@ run-spec =
     same-length-4
     same-length-5
     returns
-    round-requires
+    print-page-requires
     sub-rounds
     loop-less
     loop-again

@@ -4,8 +4,8 @@ use native.Mathlib.Omega.{arith}
 use lib.Seq.{length-take-le}
 use Rattle.sheet.proofs.Running.{settled-ready, settled-plays}
 use borrow.Author.Needs.{needs}
-use Rattle.sheet.proofs.pages.round.Statement.{statement}
-use Rattle.sheet.proofs.pages.round.Tie as tie
+use Rattle.sheet.proofs.pages.print_page.Statement.{statement}
+use Rattle.sheet.proofs.pages.print_page.Tie as tie
 
 play-page-requires : tie.Need-play-page-requires
 play-page-requires c κs = search needs
@@ -43,8 +43,8 @@ returns c =
     let w = c .before .write .result in
     (settled-ready w _ _ _ e (p .ensures .1 .0), settled-plays _ w (p .result) _ _ _ _ _ _ (p .ensures .0) e (p .ensures .1 .1))
 
-pub round-spec : {M : Type 1} → statement M
-round-spec =
+pub print-page-spec : {M : Type 1} → statement M
+print-page-spec =
     tie.close
     (tie.spec
     play-page-requires
