@@ -38,7 +38,7 @@ fn finish(
 ) -> Stepping
     requires { ⌜ length (now words) ≡ sizes .state ⌝ }
     requires { ⌜ at + sizes .process ≤ sizes .state ⌝ }
-    requires { ⌜ length (now tally) ≡ limits .answers ⌝ }
+    requires { ⌜ length (now tally) ≡ limits .tally ⌝ }
     ensures { λ r. ⌜ record { outcome = r; words = now (words .exit); tally = now (tally .exit) }
         ≡ leaveIn tick counts (End answer version effect) (now (words .entry)) at (now (tally .entry)) ⌝ }
 {
@@ -66,7 +66,7 @@ pub fn leave(
     requires { ⌜ at + sizes .process ≤ sizes .state ⌝ }
     requires { ⌜ knownProcess (take (sizes .process) (drop at (now words))) ≡ true ⌝ }
     requires { ⌜ (refuses mv ≡ false → processIn (now words) at .cursor .level ≤ topLevel) ⌝ }
-    requires { ⌜ length (now tally) ≡ limits .answers ⌝ }
+    requires { ⌜ length (now tally) ≡ limits .tally ⌝ }
     ensures { λ r. ⌜ record { outcome = r; words = now (words .exit); tally = now (tally .exit) }
         ≡ leaveIn tick counts mv (now (words .entry)) at (now (tally .entry)) ⌝ }
 {

@@ -72,7 +72,7 @@ abbrev pub buffers : Buffers
 buffers = record {
   nodes = tableWords nodeWords (limits .nodes + 1);
   versions = tableWords versionWords (limits .versions + 1);
-  tally = limits .answers;
+  tally = limits .tally;
 }
 
 -- ---- commands

@@ -23,7 +23,7 @@ impl Buffers {
 
     pub const VERSIONS: usize = State::VERSION_WORDS as usize * (State::VERSIONS as usize + 2);
 
-    pub const TALLY: usize = State::ANSWERS as usize;
+    pub const TALLY: usize = State::TALLY as usize;
 
     // Never called: it ties the constants to the definitions.
     pub fn sizes() -> Self

@@ -87,7 +87,7 @@ pub fn outcome_of(tick: u32, call: Call, mv: Move) -> Stepping
 
 // A move that ends its call is counted.
 pub fn count_end(tally: &mut [u32], mv: Move)
-    requires { ⌜ length (now tally) ≡ limits .answers ⌝ }
+    requires { ⌜ length (now tally) ≡ limits .tally ⌝ }
     ensures { λ r. ⌜ now (tally .exit) ≡ tallyAfter (now (tally .entry)) mv ⌝ }
 {
     match mv {

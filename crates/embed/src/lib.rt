@@ -49,9 +49,9 @@ pub extern "C" fn tray_state_words() -> usize
 // A count for each answer that a call can end with.
 #[no_mangle]
 pub extern "C" fn tray_tally_words() -> usize
-    ensures { λ r. ⌜ r ≡ limits .answers ⌝ }
+    ensures { λ r. ⌜ r ≡ limits .tally ⌝ }
 {
-    State::ANSWERS as usize
+    State::TALLY as usize
 }
 
 // One node more than trays, for the head. No table has 0 words, so 0 tells that there is none for so many.

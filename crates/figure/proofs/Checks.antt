@@ -10,7 +10,7 @@ use lib.ListN.{replicate}
 use Rattle.model.specs.Choice.{if_then_else_}
 use Rattle.model.specs.Layout as Layout
 use Rattle.model.specs.Layout.{Memory, nodeWords, versionWords}
-use Rattle.model.specs.Numbers.{placeOf}
+use Rattle.model.specs.Numbers.{answerNumber}
 use Rattle.model.specs.Map as Map
 use Rattle.model.specs.Map.{Reply}
 use Rattle.model.specs.State as State
@@ -57,7 +57,7 @@ abbrev pub bound : ℕ
 bound = 5
 
 unfoldable pub by-store : Case → Seen
-unfolding Layout.capacity Layout.joined Layout.word Layout.withWord Layout.withNode Layout.freshNodes Layout.field Layout.withVersion placeOf
+unfolding Layout.capacity Layout.joined Layout.word Layout.withWord Layout.withNode Layout.freshNodes Layout.field Layout.withVersion answerNumber
     State.lawfulLength State.lawfulState State.lawfulStore
     Phases.ahead Phases.walked Phases.descend Phases.walkBy Phases.walkOf Phases.readOf Phases.seekBy Phases.seekOf
     Phases.lockOf Phases.checkBy Phases.checkOf Phases.addVersion Phases.updateNode Phases.updateAt Phases.updateOf
@@ -93,7 +93,7 @@ by-ledger c = ledgerAll (c .K) (c .W) [] (c .calls)
 -- the numbers of replies
 abbrev pub numbers : List Reply → List ℕ
 numbers [] = []
-numbers (r ∷ rs) = placeOf (r .answer) ∷ r .version .value ∷ r .version .timestamp ∷ numbers rs
+numbers (r ∷ rs) = answerNumber (r .answer) ∷ r .version .value ∷ r .version .timestamp ∷ numbers rs
 
 unfoldable pub same : List ℕ → List ℕ → Bool
 same [] [] = true

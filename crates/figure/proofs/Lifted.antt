@@ -87,7 +87,7 @@ module _ {K W : ℕ} {w : Store} {h : Seen} (l : Live K W w h) (i : ℕ) (below 
   unfolding stepPermit
   granted busy = rw (
     core-lawful (l .core),
-    is-true (eqb (length (w .tally)) (limits .answers)) (eq→eqb (length (w .tally)) (limits .answers) (l .core .tally)),
+    is-true (eqb (length (w .tally)) (limits .tally)) (eq→eqb (length (w .tally)) (limits .tally) (l .core .tally)),
     not-le (w .state .processes) i below,
     no-idle (slot w i .call .kind) busy,
     not-le (w .state .limit) (w .state .events) time,

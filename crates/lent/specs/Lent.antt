@@ -26,7 +26,7 @@ pub record Lending : Type 0 where
 
 -- "The tally of zeroes has as many words as there are counts." It is not lent to an opening: its owner zeroes it.
 abbrev pub freshLent : OpenIn → Lent
-freshLent o = record { words = o .words; nodes = o .nodes; versions = o .versions; tally = replicate (limits .answers) 0 }
+freshLent o = record { words = o .words; nodes = o .nodes; versions = o .versions; tally = replicate (limits .tally) 0 }
 
 abbrev pub withWords : Lent → List ℕ → Lent
 withWords w words = record { words = words; nodes = w .nodes; versions = w .versions; tally = w .tally }

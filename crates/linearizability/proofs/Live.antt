@@ -12,7 +12,7 @@ use Rattle.linearizability.specs.Types.{Kind, Idle, Put, Get, Answer, No
 use Rattle.model.specs.Choice.{if_then_else_}
 use Rattle.model.specs.Layout.{Memory, nodeWords, versionWords, capacity, top, limits}
 use Rattle.model.specs.Map.{Map}
-use Rattle.model.specs.Numbers.{placeOf}
+use Rattle.model.specs.Numbers.{answerNumber}
 use Rattle.model.specs.State.{noProcess, idleProcess, processAt, memoryOf, withEvent, lawfulNodes, lawfulVersions, lawfulState, lawfulStore}
 use Rattle.model.specs.Phases.{ownVersion, maxNodes, maxVersions}
 use Rattle.model.specs.Calls.{callFor, Store, standing, statusPermit, statusBy, statusOf}
@@ -41,7 +41,7 @@ pub record Core (w : Store) (g : Ghost) (b : Map) : Type 0 where
   pub version-length : T (lawfulVersions (w .state .lengths .versions))
   pub nodes-lent : length (w .nodes) ≡ w .state .lengths .nodes
   pub versions-lent : length (w .versions) ≡ w .state .lengths .versions
-  pub tally : length (w .tally) ≡ limits .answers
+  pub tally : length (w .tally) ≡ limits .tally
   pub array : length (w .state .process) ≡ limits .processes
   pub nodes : Nodes (memory w) g
   pub book : Book (memory w) b
@@ -94,7 +94,7 @@ pub record Hist (K W : ℕ) (w : Store) (h : Seen) (b : Map) (eff : List Took) :
   pub track : (i : ℕ) → Track K W (h .log) eff i (h .pending i) (slot w i)
   pub nothing-else : (n i : ℕ) (c : Invoked) → getD eff n nothing ≡ took i c → Left h w n i c
   pub looks : All (LookedAt K W eff) (h .queries)
-  pub tally : (a : Answer) → getD (w .tally) (placeOf a) 0 ≡ countedAt (placeOf a) (h .completed)
+  pub tally : (a : Answer) → getD (w .tally) (answerNumber a) 0 ≡ countedAt (answerNumber a) (h .completed)
   pub counted : h .starts ≡ length (h .completed) + busyBelow (w .state .process) (w .state .processes)
   pub few : h .starts ≤ length (h .log)
   pub faults : h .faults ≡ 0
@@ -296,7 +296,7 @@ module _ (K W : ℕ) (w : Store) (h : Seen) (b : Map) (eff : List Took) (k : His
     pub kept : (n j : ℕ) (c : Invoked) → Any (EndedAt n j c) (h .completed) → Any (EndedAt n j c) completed
     pub old : (n : ℕ) (c : Invoked) → h .pending i ≡ has-call c → slot w i .effect .tick ≡ suc n → Left h′ w′ n i c
     pub now : (n j : ℕ) (c : Invoked) → n ≡ length (h .log) → x ≡ took j c → Left h′ w′ n j c
-    pub tally : (q : Answer) → getD tly (placeOf q) 0 ≡ countedAt (placeOf q) completed
+    pub tally : (q : Answer) → getD tly (answerNumber q) 0 ≡ countedAt (answerNumber q) completed
     pub counted : starts ≡ length completed + busyBelow (set (w .state .process) i pr) (w .state .processes)
     pub few : starts ≤ suc (length (h .log))
     pub no-faults : faults ≡ 0

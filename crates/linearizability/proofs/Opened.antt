@@ -10,7 +10,7 @@ use lib.ListN.{length, getD, replicate, length-replicate}
 use Rattle.linearizability.specs.Types.{Idle, Walk, Refusal, Permit, Granted, Denied, Process, Opening}
 use Rattle.model.specs.Layout.{Memory, nodeWords, versionWords, limits, capacity, word, key, top, next, freshNodes, linkAt, lockAt, nodeOffsets, topLevel, levels}
 use Rattle.model.specs.Map.{held}
-use Rattle.model.specs.Numbers.{placeOf}
+use Rattle.model.specs.Numbers.{answerNumber}
 use Rattle.model.specs.State.{idleProcess, noProcess, freshState, within, lawfulLength, lawfulNodes, lawfulVersions}
 use Rattle.model.specs.Calls.{openDue, openPermit, openBy, openOf, Store}
 use Rattle.model.specs.ByValue.{freshStore}
@@ -82,7 +82,7 @@ module _ (nodes versions : List ℕ) (processes limit : ℕ) (law : Lawful nodes
     state = freshState processes limit (record { nodes = n; versions = length versions });
     nodes = freshNodes n;
     versions = replicate (length versions) 0;
-    tally = replicate (limits .answers) 0;
+    tally = replicate (limits .tally) 0;
   }
 
   abbrev g₀ : Ghost
@@ -202,7 +202,7 @@ module _ (nodes versions : List ℕ) (processes limit : ℕ) (law : Lawful nodes
         (record { same = refl; resting = λ e. refl; begun = omega arith; entered = λ d e ne. absurd (ne refl) }) i;
     nothing-else = λ k i c e. absurd (nothing≢took e);
     looks = tt;
-    tally = λ a. filled {A = ℕ} (limits .answers) (placeOf a) 0;
+    tally = λ a. filled {A = ℕ} (limits .tally) (answerNumber a) 0;
     counted = omega (arith, none-busy processes);
     few = omega arith;
     faults = refl;

@@ -10,7 +10,7 @@ use lib.ListN.{take, replicate, length-replicate}
 use Rattle.linearizability.specs.Types.{NodeLength, NoKey, Answer, TooOld, New, Found, None, Busy, Damaged, Version, Granted, Denied, Finish, Starting, Stepping, Looking, Status}
 use Rattle.model.specs.Choice.{if_then_else_}
 use Rattle.model.specs.Layout.{limits}
-use Rattle.model.specs.Numbers.{placeOf, noVersion}
+use Rattle.model.specs.Numbers.{answerNumber, noVersion}
 use Rattle.model.specs.Requests as Requests
 use Rattle.model.specs.Requests.{Operation}
 use Rattle.model.specs.Map as Map
@@ -94,7 +94,7 @@ told d a v e = record {
 }
 
 abbrev is : Answer → Answer → Bool
-is a b = eqb (placeOf a) (placeOf b)
+is a b = eqb (answerNumber a) (answerNumber b)
 
 abbrev own : Finish → Version
 own d = record { value = d .value; timestamp = d .timestamp }
@@ -176,7 +176,7 @@ cries-damage-refuted = record {
 -- ---- "Invented ticks or tallies break 3"
 
 abbrev pub no-tally : Change
-no-tally = tallying (λ t. replicate (limits .answers) 0)
+no-tally = tallying (λ t. replicate (limits .tally) 0)
 
 pub no-tally-refuted : Refutation no-tally
 unfolding said countedAt
@@ -186,7 +186,7 @@ no-tally-refuted = record {
   fresh = w₁;
   opens = refl;
   actions = put 11 7 5 100;
-  refutes = λ c. omega (arith, c .demanded .tally (placeOf New) (lit< tt));
+  refutes = λ c. omega (arith, c .demanded .tally (answerNumber New) (lit< tt));
 }
 
 abbrev pub tick-ahead : Change
@@ -256,7 +256,7 @@ nothing-found-refuted = record {
   fresh = w₁;
   opens = refl;
   actions = put 11 7 5 100 ++ get 7 7;
-  refutes = λ c. omega (arith, ap (λ (r : Reply). placeOf (r .answer)) (c .demanded .completed .0 .took-effect refl .answer));
+  refutes = λ c. omega (arith, ap (λ (r : Reply). answerNumber (r .answer)) (c .demanded .completed .0 .took-effect refl .answer));
 }
 
 -- ---- "dropping equal stamps": such a put is passed on as one stamp older, and told with its own
@@ -285,7 +285,7 @@ equal-dropped-refuted = record {
   fresh = freshOf (given 1 2);
   opens = refl;
   actions = put 11 7 5 100 ++ put 11 7 6 100;
-  refutes = λ c. omega (arith, ap (λ (r : Reply). placeOf (r .answer)) (c .demanded .completed .0 .took-effect refl .answer));
+  refutes = λ c. omega (arith, ap (λ (r : Reply). answerNumber (r .answer)) (c .demanded .completed .0 .took-effect refl .answer));
 }
 
 -- ---- "A put that says full while cells remain breaks 2 at that step and 3 by the ledger.": of two nodes one is used
@@ -304,7 +304,7 @@ full-early-refuted = record {
   fresh = freshOf (half (given 2 2));
   opens = refl;
   actions = put 11 7 5 100 ++ put 12 9 6 100;
-  refutes = λ c. omega (arith, ap (λ (r : Reply). placeOf (r .answer)) (c .demanded .completed .0 .took-effect refl .answer));
+  refutes = λ c. omega (arith, ap (λ (r : Reply). answerNumber (r .answer)) (c .demanded .completed .0 .took-effect refl .answer));
 }
 
 -- ---- a look that never finds a tray

@@ -14,7 +14,7 @@ use Rattle.model.specs.Choice.{if_then_else_}
 use Rattle.model.specs.Layout.{Memory, limits, levels}
 use Rattle.model.specs.Map.{Map, putIn, PutResult, Reply, getFrom, applied, Applied}
 use Rattle.model.specs.Map as Seq
-use Rattle.model.specs.Numbers.{placeOf}
+use Rattle.model.specs.Numbers.{answerNumber}
 use Rattle.model.specs.Roles.{isPut, isGet}
 use Rattle.model.specs.State.{idleProcess, noProcess, withEvent}
 use Rattle.model.specs.Phases.{Moved, moved, ownVersion, transitionOf}
@@ -36,24 +36,24 @@ use Rattle.model.proofs.Seen.{Seen, isGranted, sawStep, seenDue, tickOf, unless
 
 -- ---- the tally
 
-answered-few : (a : Answer) (l : List Completed) → countedAt (placeOf a) l ≤ length l
+answered-few : (a : Answer) (l : List Completed) → countedAt (answerNumber a) l ≤ length l
 unfolding countedAt
 answered-few a [] = omega arith
 answered-few a (d ∷ l) =
     let h = answered-few a l in
-    if-by (λ (k : ℕ). k + countedAt (placeOf a) l ≤ suc (length l)) (eqb (placeOf (d .told .answer)) (placeOf a)) (λ t. omega arith) (λ t. omega arith)
+    if-by (λ (k : ℕ). k + countedAt (answerNumber a) l ≤ suc (length l)) (eqb (answerNumber (d .told .answer)) (answerNumber a)) (λ t. omega arith) (λ t. omega arith)
 
 -- the tally after a finished call: far fewer calls were finished than a count holds
-tally-counts : (t : List ℕ) (ds : List Completed) (d : Completed) (a : Answer) → length t ≡ limits .answers → length ds < (limits .count)
-    → getD t (placeOf (d .told .answer)) 0 ≡ countedAt (placeOf (d .told .answer)) ds → getD t (placeOf a) 0 ≡ countedAt (placeOf a) ds
-    → getD (counted t (d .told .answer)) (placeOf a) 0 ≡ countedAt (placeOf a) (d ∷ ds)
+tally-counts : (t : List ℕ) (ds : List Completed) (d : Completed) (a : Answer) → length t ≡ limits .tally → length ds < (limits .count)
+    → getD t (answerNumber (d .told .answer)) 0 ≡ countedAt (answerNumber (d .told .answer)) ds → getD t (answerNumber a) 0 ≡ countedAt (answerNumber a) ds
+    → getD (counted t (d .told .answer)) (answerNumber a) 0 ≡ countedAt (answerNumber a) (d ∷ ds)
 unfolding counted countedAt
 tally-counts t ds d a l7 few e e′ =
-    let p = placeOf (d .told .answer) in
-    if-lt (λ (u : List ℕ). getD u (placeOf a) 0 ≡ (if eqb p (placeOf a) then 1 else 0) + countedAt (placeOf a) ds) (getD t p 0) (limits .count)
-    (λ h. if-eq (λ (n : ℕ). getD (set t p (getD t p 0 + 1)) (placeOf a) 0 ≡ n + countedAt (placeOf a) ds) p (placeOf a)
+    let p = answerNumber (d .told .answer) in
+    if-lt (λ (u : List ℕ). getD u (answerNumber a) 0 ≡ (if eqb p (answerNumber a) then 1 else 0) + countedAt (answerNumber a) ds) (getD t p 0) (limits .count)
+    (λ h. if-eq (λ (n : ℕ). getD (set t p (getD t p 0 + 1)) (answerNumber a) 0 ≡ n + countedAt (answerNumber a) ds) p (answerNumber a)
     (λ q. rw (← q) (getD-set-same t p (getD t p 0 + 1) 0 (omega (arith, place-below (d .told .answer))) ∙ omega (arith, ap (λ (z : ℕ). getD t z 0) q)))
-    (λ q. getD-set-other t p (placeOf a) (getD t p 0 + 1) 0 (λ z. q (sym z)) ∙ omega arith))
+    (λ q. getD-set-other t p (answerNumber a) (getD t p 0 + 1) 0 (λ z. q (sym z)) ∙ omega arith))
     (λ h. absurd (omega (arith, answered-few (d .told .answer) ds)))
 
 -- ---- what the map makes of the call that a process keeps
@@ -501,7 +501,7 @@ step-live {from} {K} {W} {w} {h} l i = rw due (go (seenDue h (step i)) refl)
         let k = l .hist in
         unfold stepPermit due in (rw (
           core-lawful (l .core),
-          is-true (eqb (length (w .tally)) (limits .answers)) (eq→eqb (length (w .tally)) (limits .answers) (l .core .tally)),
+          is-true (eqb (length (w .tally)) (limits .tally)) (eq→eqb (length (w .tally)) (limits .tally) (l .core .tally)),
           k .processes-is,
           k .limit-is,
           k .ticks,

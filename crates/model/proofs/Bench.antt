@@ -6,11 +6,11 @@ use mathlib.Core.Path.{_≡_, refl}
 use mathlib.Core.List.{List, [], _∷_, _++_}
 use lib.Count.{trailingZeros}
 use lib.ListN.{length, replicate, set}
-use Rattle.model.specs.Types.{Opening, Starting, Stepping, Looking, Inspecting, Status, Process, Kind, Put, Get, Phase}
-use Rattle.model.specs.Types.{Answer, Added, New, Found, Refusal}
+use Rattle.model.specs.Types.{Opening, Starting, Stepping, Looking, Inspecting, Status, Process, Kind, Put, Get, Scan, Phase}
+use Rattle.model.specs.Types.{Answer, Added, New, Found, Swept, Refusal}
 use Rattle.model.specs.Layout as Layout
 use Rattle.model.specs.Layout.{nodeWords, versionWords, limits, capacity, word}
-use Rattle.model.specs.Numbers.{numberOf, placeOf}
+use Rattle.model.specs.Numbers.{numberOf, answerNumber}
 use Rattle.model.specs.Map as Map
 use Rattle.model.specs.Map.{Entry}
 use Rattle.model.specs.State as State
@@ -34,6 +34,9 @@ startPut i k v t draw = History.start i (Requests.put k v t draw)
 
 abbrev pub startGet : (process key : ℕ) → Action
 startGet i k = History.start i (Requests.get k)
+
+abbrev pub startScan : (process first last : ℕ) → Action
+startScan i first last = History.start i (Requests.scan first last)
 
 -- ---- a case
 
@@ -120,10 +123,11 @@ answer-to ledger o r = lists (ledger-of r)
 -- All that the calls go through is opened here, once: whoever unfolds `said` unfolds this line.
 unfoldable pub said : Case → Said
 unfolding open-bench start call-of ledger-of answer-to
-    numberOf placeOf
+    numberOf answerNumber
     capacity Layout.joined word Layout.withWord Layout.withNode Layout.freshNodes Layout.field Layout.withVersion
     State.lawfulLength State.lawfulState State.lawfulStore
     Phases.ahead Phases.walked Phases.descend Phases.walkBy Phases.walkOf Phases.readOf Phases.seekBy Phases.seekOf
+    Phases.showAt Phases.followAt Phases.followOf
     Phases.lockOf Phases.checkBy Phases.checkOf Phases.addVersion Phases.updateNode Phases.updateAt Phases.updateOf
     Phases.addNode Phases.makeOf Phases.addLink Phases.linkOf Phases.rise Phases.released Phases.freed
     Phases.releaseOf Phases.lawfulAt Phases.lawfulProcess
@@ -135,7 +139,7 @@ unfolding open-bench start call-of ledger-of answer-to
     Inspection.chainFalls Inspection.chainAges Inspection.chainSound Inspection.versionsSound Inspection.reaching
     Inspection.levelFrom Inspection.levelsFrom Inspection.inspection Inspection.idleBelow Inspection.inspectPermit
     Inspection.inspectBy inspectOf
-    History.pendingAt History.logOf History.pendingIn History.startsIn History.completedIn History.queriesIn History.due History.perform
+    History.pendingAt History.sightsAt History.logOf History.pendingIn History.sightsIn History.startsIn History.completedIn History.queriesIn History.due History.perform
     performAll Seen.sawStart Seen.sawStep Seen.sawLook Seen.saw faultsOf
     Map.versionsOf Map.held Map.pushed Map.putBy Map.putIn Map.getBy Map.getFrom Map.applied Linearizability.completedEffects
     Linearizability.shownEffect Linearizability.runningEffects effectsOf Linearizability.fedAt mapAfter
@@ -151,7 +155,7 @@ asked b actions q = said (record { bench = b; actions = actions; alter = λ w. w
 -- ---- words for the cases
 
 abbrev pub lent : (nodes versions processes limit : ℕ) → Bench
-lent n v p l = record { nodes = n; versions = v; processes = p; limit = l; tally = replicate (limits .answers) 0 }
+lent n v p l = record { nodes = n; versions = v; processes = p; limit = l; tally = replicate (limits .tally) 0 }
 
 -- the sheet's `open`: K, V (W here, since `V` is a word of the language), processes and limit
 abbrev pub fit : (K W processes limit : ℕ) → Bench
@@ -209,6 +213,10 @@ on t = stepped (Stepping.Moved t)
 abbrev pub wait : (tick : ℕ) → Said
 wait t = stepped (Stepping.Waited t)
 
+-- a step that shows
+abbrev pub shown : (tick key value timestamp : ℕ) → Said
+shown t k v s = stepped (Stepping.Shown t (record { key = k; version = record { value = v; timestamp = s } }))
+
 abbrev pub shows : (value timestamp : ℕ) → Said
 shows v t = looked (Looking.Shown (record { value = v; timestamp = t }))
 
@@ -221,12 +229,15 @@ no-step r = stepped (Stepping.Refused r)
 abbrev pub no-look : Refusal → Said
 no-look r = looked (Looking.Refused r)
 
--- K 2, V 3 with one process, and with two
+-- K 2, V 3 with one process, and with two; K 3, V 5
 abbrev pub one : Bench
 one = fit 2 3 1 400
 
 abbrev pub two : Bench
 two = fit 2 3 2 400
+
+abbrev pub three : Bench
+three = fit 3 5 2 400
 
 -- the top that a draw gives, and word 2 of the node that a put with this draw makes
 abbrev pub draw-gives : (draw top : ℕ) → Case
@@ -258,15 +269,19 @@ climbing = startPut 0 3 5 100 2 ∷ steps 16 0 ++ (startPut 0 9 6 101 2 ∷ step
 abbrev pub overtaken : (n : ℕ) → List Action
 overtaken n = startPut 0 7 5 100 2 ∷ startPut 1 9 6 101 2 ∷ steps 6 0 ++ steps 6 1 ++ steps n 1 ++ steps 10 0
 
--- the call that a process keeps, and where it stands
+-- the call that a process keeps, a put or a get, and where it stands
 abbrev pub kept : Kind → (key value timestamp top start : ℕ) → Phase → (level pred made : ℕ) → Answer → (effect : ℕ)
     → (preds : List ℕ) → Said
 kept kind k v t top start phase level pred made a effect preds = keeps (record {
-  call = record { kind = kind; key = k; value = v; timestamp = t; top = top; start = start };
+  call = record { kind = kind; key = k; last = k; value = v; timestamp = t; top = top; start = start };
   cursor = record { phase = phase; level = level; pred = pred; made = made };
   effect = record { answer = a; tick = effect };
   preds = preds;
 })
+
+-- trays 10 and 30 held; process 1 has walked to 10 for the span 10 to 20; then tray 5 is made
+abbrev pub scanned : List Action
+scanned = put 11 10 5 100 ++ put 12 30 6 100 ++ (startScan 1 10 20 ∷ steps 6 1) ++ put 11 5 8 100
 
 -- trays 7 and 9 put side by side on an empty store, to the end
 abbrev pub both : List Action
@@ -363,6 +378,26 @@ pred-remembered = refl
 top-capped : asked one [] (top-of 2) ≡ words (1 ∷ [])
 unfolding asked
 top-capped = refl
+
+-- P1: "A step that meets a tray below the first, made since the walk, moves p there and shows nothing."
+below-passed : asked three scanned (call (step 1)) ≡ on 45
+unfolding asked
+below-passed = refl
+
+-- "each step that meets a tray of the span moves p there and shows its number and newest reading": p was moved past tray 5
+newest-shown : asked three (scanned ++ (step 1 ∷ []) ++ put 12 10 9 100) (call (step 1)) ≡ shown 59 10 9 100
+unfolding asked
+newest-shown = refl
+
+-- "The step that meets [..] a tray past the last [..] finishes, with answer 'swept', value 0 and stamp 0. The sweep's effect tick is 0"
+swept-past-last : asked three (scanned ++ steps 2 1) (call (step 1)) ≡ done Scan Swept 0 0 26 0 47
+unfolding asked
+swept-past-last = refl
+
+-- "no tally counts it": three new, and no other
+not-tallied : asked three (scanned ++ steps 3 1) tally ≡ words (0 ∷ 0 ∷ 0 ∷ 0 ∷ 3 ∷ 0 ∷ 0 ∷ [])
+unfolding asked
+not-tallied = refl
 
 -- "a link that make or link only copies is not tested": where the head's leads to no node in use, make goes on
 link-copied : said (record {

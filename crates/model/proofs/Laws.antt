@@ -1,7 +1,7 @@
 -- What the definitions say on every state, tables and tally: their numbers, that a refusal changes nothing, that an
 -- event is one tick, that a wait is only that, and that a look ends.
 use Prim.Native.Nat.{ℕ, zero, suc, _+_, _*_, _-_, _/_, _%_, _≤_, _<_}
-use mathlib.Core.Bool.{Bool, true, false, not, and-eq-true-iff}
+use mathlib.Core.Bool.{Bool, true, false, not, _&&_, and-eq-true-iff}
 use mathlib.Core.List.{List, [], _∷_, map}
 use mathlib.Core.Logic.{_≢_, _↔_}
 use mathlib.Core.Path.{_≡_, refl, sym, ap, _∙_}
@@ -11,16 +11,16 @@ use lib.Count.{trailingZeros}
 use lib.Dec.{leb, ltb, eqb, lit<}
 use lib.ListN.{length, getD, length-set}
 use lib.Seq.{set-getD}
-use Rattle.model.specs.Types.{Answer, TooOld, VersionsFull, Added, KeysFull, New, Found, None}
+use Rattle.model.specs.Types.{Answer, TooOld, VersionsFull, Added, KeysFull, New, Found, None, Swept}
 use Rattle.model.specs.Types.{Refusal, NodeLength, VersionLength, ProcessCount, EventLimit, NoProcess, BadKey}
-use Rattle.model.specs.Types.{Busy, NoCall, Spent, Corrupt, Damaged, NoKey, NoVersion, NotOpen, UnknownCommand, CutShort}
-use Rattle.model.specs.Types.{Phase, Walk, Read, Seek, Lock, Check, Update, Make, Link, Release}
-use Rattle.model.specs.Types.{Ahead, Unused, Less, Equal, Past, Move, Refuse, Wait, Go, Note, Commit, End}
+use Rattle.model.specs.Types.{Busy, NoCall, Spent, Corrupt, Damaged, NoKey, NoVersion, NotOpen, UnknownCommand, CutShort, BadRange}
+use Rattle.model.specs.Types.{Phase, Walk, Read, Seek, Lock, Check, Update, Make, Link, Release, Follow}
+use Rattle.model.specs.Types.{Ahead, Unused, Less, Equal, Past, Move, Refuse, Wait, Go, Note, Commit, Show, End}
 use Rattle.model.specs.Types.{Permit, Granted, Denied, Call, Cursor, Effect, Process, State, Version, Opening, Starting, Stepping, Looking}
 use Rattle.model.specs.Choice.{if_then_else_}
 use Rattle.model.specs.Layout.{limits, topLevel, levels, Memory, newest, prev}
-use Rattle.model.specs.Numbers.{numberOf, placeOf, refusals, refusalOf, answers, answerOf}
-use Rattle.model.specs.Requests.{Fitting, Operation, keyOf}
+use Rattle.model.specs.Numbers.{numberOf, answerNumber, isCounted, refusals, refusalOf, answers, answerOf}
+use Rattle.model.specs.Requests.{Fitting, Operation, firstOf, lastOf}
 use Rattle.model.specs.State.{closedState, memoryOf, within, lawfulLength, lawfulNodes, lawfulVersions, lawfulKey}
 use Rattle.model.proofs.Tests.{leb-iff, eqb-iff, if-by}
 use Rattle.model.specs.Phases.{Moved, moved, refuses, usedVersion, lockOf, checkBy, checkOf, updateNode, updateAt}
@@ -34,18 +34,22 @@ use Rattle.model.specs.Calls.{backFrom, lookNode, lookPermit, lookBy, lo
 -- the limits of Layout, in its order, are document 01's numbers
 pub constants :
     limits .nodewords ∷ limits .versionwords ∷ limits .top ∷ limits .nodes ∷ limits .versions ∷ limits .processes
-    ∷ limits .events ∷ limits .key ∷ limits .answers ∷ limits .count ∷ levels ∷ []
+    ∷ limits .events ∷ limits .key ∷ limits .tally ∷ limits .count ∷ levels ∷ []
     ≡ 16 ∷ 3 ∷ 5 ∷ 1_023 ∷ 4_095 ∷ 8 ∷ 1_000_000_000 ∷ 18_446_744_073_709_551_614 ∷ 7 ∷ 4_294_967_295 ∷ 6 ∷ []
 constants = refl
 
--- the refusals are numbered 1 to 16 in order, the answers' counts stand at 0 to 6
-pub numbers : map numberOf refusals ≡ 1 ∷ 2 ∷ 3 ∷ 4 ∷ 5 ∷ 6 ∷ 7 ∷ 8 ∷ 9 ∷ 10 ∷ 11 ∷ 12 ∷ 13 ∷ 14 ∷ 15 ∷ 16 ∷ []
+-- the refusals are numbered 1 to 17 in order, the answers from 0; all of these but the last are counted
+pub numbers : map numberOf refusals ≡ 1 ∷ 2 ∷ 3 ∷ 4 ∷ 5 ∷ 6 ∷ 7 ∷ 8 ∷ 9 ∷ 10 ∷ 11 ∷ 12 ∷ 13 ∷ 14 ∷ 15 ∷ 16 ∷ 17 ∷ []
 unfolding numberOf
 numbers = refl
 
-pub places : map placeOf answers ≡ 0 ∷ 1 ∷ 2 ∷ 3 ∷ 4 ∷ 5 ∷ 6 ∷ []
-unfolding placeOf
-places = refl
+pub answer-numbers : map answerNumber answers ≡ 0 ∷ 1 ∷ 2 ∷ 3 ∷ 4 ∷ 5 ∷ 6 ∷ 7 ∷ []
+unfolding answerNumber
+answer-numbers = refl
+
+pub counted-answers : map isCounted answers ≡ true ∷ true ∷ true ∷ true ∷ true ∷ true ∷ true ∷ false ∷ []
+unfolding answerNumber
+counted-answers = refl
 
 -- no refusal is missing in that order: each is found at its number
 pub refusal-at : (r : Refusal) → refusalOf (numberOf r) ≡ r
@@ -66,6 +70,7 @@ refusal-at NoVersion = refl
 refusal-at NotOpen = refl
 refusal-at UnknownCommand = refl
 refusal-at CutShort = refl
+refusal-at BadRange = refl
 
 -- 0 is none's
 pub numbered : (r : Refusal) → numberOf r ≢ 0
@@ -73,8 +78,8 @@ unfolding numberOf
 numbered r e = let one : numberOf r ≡ 1 = ap numberOf (sym (refusal-at r) ∙ ap refusalOf e) in omega (arith, e, one)
 
 -- nor is an answer
-pub answer-at : (a : Answer) → answerOf (placeOf a) ≡ a
-unfolding placeOf
+pub answer-at : (a : Answer) → answerOf (answerNumber a) ≡ a
+unfolding answerNumber
 answer-at TooOld = refl
 answer-at VersionsFull = refl
 answer-at Added = refl
@@ -82,28 +87,18 @@ answer-at KeysFull = refl
 answer-at New = refl
 answer-at Found = refl
 answer-at None = refl
+answer-at Swept = refl
 
--- a number tells its refusal, a place its answer
+-- a number tells its refusal, and its answer
 pub number-injective : (r d : Refusal) → numberOf r ≡ numberOf d → r ≡ d
 number-injective r d e = sym (refusal-at r) ∙ ap refusalOf e ∙ refusal-at d
 
-pub place-injective : (a b : Answer) → placeOf a ≡ placeOf b → a ≡ b
-place-injective a b e = sym (answer-at a) ∙ ap answerOf e ∙ answer-at b
+pub answer-injective : (a b : Answer) → answerNumber a ≡ answerNumber b → a ≡ b
+answer-injective a b e = sym (answer-at a) ∙ ap answerOf e ∙ answer-at b
 
--- each answer has one of the tally's seven words
-pub place-below : (a : Answer) → placeOf a < limits .answers
-unfolding placeOf
-place-below TooOld = lit< tt
-place-below VersionsFull = lit< tt
-place-below Added = lit< tt
-place-below KeysFull = lit< tt
-place-below New = lit< tt
-place-below Found = lit< tt
-place-below None = lit< tt
-
--- and each word is an answer's
-pub place-at : (n : ℕ) → n < limits .answers → placeOf (answerOf n) ≡ n
-unfolding placeOf
+-- each of the tally's seven words is an answer's
+pub place-at : (n : ℕ) → n < limits .tally → answerNumber (answerOf n) ≡ n
+unfolding answerNumber
 place-at zero lt = refl
 place-at (suc zero) lt = refl
 place-at (suc (suc zero)) lt = refl
@@ -225,9 +220,9 @@ Starts before after (Starting.Refused r) = after ≡ before
 Starts before after (Starting.Started t) = Event before after t
 
 module _ (s : State) (nodes versions : List ℕ) (i : ℕ) where
-  may-start : (k : ℕ) → startPermit s nodes versions i k ≡ Granted → s .events < s .limit
+  may-start : (first last : ℕ) → startPermit s nodes versions i first last ≡ Granted → s .events < s .limit
   unfolding startPermit
-  may-start k e = let f = simp granted-iff at e in leb-false _ _ (f .1 .1 .1 .1 .0)
+  may-start first last e = let f = simp granted-iff at e in leb-false _ _ (f .1 .1 .1 .1 .1 .0)
 
   starts-by : (p : Permit) → (p ≡ Granted → s .events < s .limit) → (call : Call)
       → let o = startBy p s i call in Starts s (o .state) (o .outcome)
@@ -237,7 +232,7 @@ module _ (s : State) (nodes versions : List ℕ) (i : ℕ) where
 
   pub starts : (op : Operation) → let o = startOf s nodes versions i op in Starts s (o .state) (o .outcome)
   unfolding startOf
-  starts op = starts-by (startPermit s nodes versions i (keyOf op)) (may-start (keyOf op)) _
+  starts op = starts-by (startPermit s nodes versions i (firstOf op) (lastOf op)) (may-start (firstOf op) (lastOf op)) _
 
   -- whenever a start is refused, its state is the one given
   pub start-refused : (op : Operation) (r : Refusal)
@@ -252,6 +247,7 @@ refused-is Wait e = cc
 refused-is (Go c) e = cc
 refused-is (Note c) e = cc
 refused-is (Commit c a) e = cc
+refused-is (Show c x) e = cc
 refused-is (End a r t) e = cc
 
 pub length-tally : (t : List ℕ) (v : Move) → length (tallyAfter t v) ≡ length t
@@ -261,8 +257,9 @@ length-tally t Wait = refl
 length-tally t (Go c) = refl
 length-tally t (Note c) = refl
 length-tally t (Commit c a) = refl
-length-tally t (End a v e) = if-by (λ (u : List ℕ). length u ≡ length t) (ltb (getD t (placeOf a) 0) (limits .count))
-    (λ h. length-set t (placeOf a) _) (λ h. refl)
+length-tally t (Show c x) = refl
+length-tally t (End a v e) = if-by (λ (u : List ℕ). length u ≡ length t) (isCounted a && ltb (getD t (answerNumber a) 0) (limits .count))
+    (λ h. length-set t (answerNumber a) _) (λ h. refl)
 
 -- ---- one turn: of its moves, refuse and wait change no memory
 
@@ -333,6 +330,7 @@ keeps-phase Update holder tick p m = keeps-update _ _ _ _
 keeps-phase Make holder tick p m = keeps-make _ _ _
 keeps-phase Link holder tick p m = keeps-link _ _
 keeps-phase Release holder tick p m = keeps-release _ _ _ _ _
+keeps-phase Follow holder tick p m = kept m _
 
 -- damage found, or a lock held: the memory is the one given
 pub transition-keeps : (holder tick : ℕ) (p : Process) (m : Memory) → Keeps m (transitionOf holder tick p m)
@@ -346,6 +344,7 @@ abbrev pub Steps : (before after : Store) → Stepping → Type 0
 Steps before after (Stepping.Refused r) = after ≡ before
 Steps before after (Stepping.Moved t) = Event (before .state) (after .state) t
 Steps before after (Stepping.Waited t) = Event (before .state) (after .state) t
+Steps before after (Stepping.Shown t x) = Event (before .state) (after .state) t
 Steps before after (Stepping.Finished f) = Event (before .state) (after .state) (f .finish)
 
 -- one event more, and all else as it was
@@ -379,6 +378,7 @@ module _ (w : Store) (i : ℕ) where
   steps-by Granted h (Go c) m = omega (arith, h refl)
   steps-by Granted h (Note c) m = omega (arith, h refl)
   steps-by Granted h (Commit c a) m = omega (arith, h refl)
+  steps-by Granted h (Show c x) m = omega (arith, h refl)
   steps-by Granted h (End a v e) m = omega (arith, h refl)
 
   -- so for every step
@@ -401,6 +401,7 @@ module _ (w : Store) (i : ℕ) where
   waits-by Granted (Go c) m t h e = cc
   waits-by Granted (Note c) m t h e = cc
   waits-by Granted (Commit c a) m t h e = cc
+  waits-by Granted (Show c x) m t h e = cc
   waits-by Granted (End a v x) m t h e = cc
 
   -- "the step answers 'wait' and changes only the event count"

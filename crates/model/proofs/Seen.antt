@@ -2,32 +2,35 @@
 use Prim.Native.Nat.{ℕ, suc, _+_}
 use mathlib.Core.Bool.{Bool, true, false, _&&_}
 use mathlib.Core.List.{List, [], _∷_, _++_}
-use mathlib.Core.Path.{_≡_, refl, ap, _∙_}
+use mathlib.Core.Path.{_≡_, refl}
 use lib.Dec.{eqb}
 use lib.ListN.{length}
 use Rattle.model.specs.Types.{Refusal, Permit, Granted, Denied, Starting, Stepping, Looking, Status}
 use Rattle.model.specs.Choice.{if_then_else_}
 use Rattle.model.specs.Numbers.{numberOf}
-use Rattle.model.specs.Requests.{Operation, put, get}
-use Rattle.model.specs.History.{Action, start, step, Observation, started, stepped, looked, Pending, no-call, has-call, pendingAt, due, Completed, finished, Query, History, logOf, pendingIn, startsIn, completedIn, queriesIn, noted}
-use Rattle.model.specs.Linearizability.{Effected, takesEffect, completedEffects, runningEffects, effectsOf}
+use Rattle.model.specs.Requests.{Operation}
+use Rattle.model.specs.History.{Action, start, step, Observation, started, stepped, looked, Pending, no-call, has-call, pendingAt, Sight, sightsAt, due, Completed, finished, Query, History, logOf, pendingIn, sightsIn, startsIn, completedIn, queriesIn, noted}
+use Rattle.model.specs.Linearizability.{Effected, completedEffects, runningEffects, effectsOf}
 
 pub record Seen : Type 0 where
   pub processes : ℕ  -- as the opening gave them
   pub limit : ℕ
   pub log : List Action  -- the events: that of tick t stands at t - 1
   pub pending : ℕ → Pending  -- the call of each process
+  pub sights : ℕ → List Sight  -- what its last call has shown
   pub starts : ℕ  -- accepted starts
   pub completed : List Completed
   pub queries : List Query
   pub faults : ℕ
 
-abbrev pub seenOf : (processes limit : ℕ) → List Action → (ℕ → Pending) → (starts : ℕ) → List Completed → List Query → (faults : ℕ) → Seen
-seenOf processes limit log pending starts completed queries faults = record {
+abbrev pub seenOf : (processes limit : ℕ) → List Action → (ℕ → Pending) → (ℕ → List Sight) → (starts : ℕ) → List Completed → List Query → (faults : ℕ)
+    → Seen
+seenOf processes limit log pending sights starts completed queries faults = record {
   processes = processes;
   limit = limit;
   log = log;
   pending = pending;
+  sights = sights;
   starts = starts;
   completed = completed;
   queries = queries;
@@ -35,7 +38,7 @@ seenOf processes limit log pending starts completed queries faults = record {
 }
 
 abbrev pub emptySeen : (processes limit : ℕ) → Seen
-emptySeen processes limit = seenOf processes limit [] (λ i. no-call) 0 [] [] 0
+emptySeen processes limit = seenOf processes limit [] (λ i. no-call) (λ i. []) 0 [] [] 0
 
 -- "its tick is the count of events so far, itself included"
 abbrev pub tickOf : Seen → ℕ
@@ -63,30 +66,34 @@ unless right = if right then 0 else 1
 -- "A refused start or step has no tick and gives the ledger nothing."
 abbrev pub sawRefusal : Seen → Bool → Seen
 sawRefusal h right =
-    seenOf (h .processes) (h .limit) (h .log) (h .pending) (h .starts) (h .completed) (h .queries) (h .faults + unless right)
+    seenOf (h .processes) (h .limit) (h .log) (h .pending) (h .sights) (h .starts) (h .completed) (h .queries) (h .faults + unless right)
 
 -- an event, that answered this tick
-abbrev pub sawEvent : Seen → Action → (ℕ → Pending) → (starts : ℕ) → List Completed → Permit → (tick : ℕ) → Seen
-sawEvent h a pending starts completed due tick =
-    seenOf (h .processes) (h .limit) (h .log ++ (a ∷ [])) pending starts completed (h .queries)
+abbrev pub sawEvent : Seen → Action → (ℕ → Pending) → (ℕ → List Sight) → (starts : ℕ) → List Completed → Permit → (tick : ℕ) → Seen
+sawEvent h a pending sights starts completed due tick =
+    seenOf (h .processes) (h .limit) (h .log ++ (a ∷ [])) pending sights starts completed (h .queries)
     (h .faults + unless (isGranted due && eqb tick (tickOf h)))
 
 unfoldable pub sawStart : Seen → (process : ℕ) → Operation → Starting → Seen
 sawStart h i op (Starting.Refused r) = sawRefusal h (isDenied (seenDue h (start i op)) r)
 sawStart h i op (Starting.Started t) =
-    sawEvent h (start i op) (pendingAt (h .pending) i (has-call (record { operation = op; start = tickOf h }))) (suc (h .starts)) (h .completed)
-    (seenDue h (start i op)) t
+    sawEvent h (start i op) (pendingAt (h .pending) i (has-call (record { operation = op; start = tickOf h }))) (sightsAt (h .sights) i [])
+    (suc (h .starts)) (h .completed) (seenDue h (start i op)) t
 
 unfoldable pub sawStep : Seen → (process : ℕ) → Stepping → Seen
 sawStep h i (Stepping.Refused r) = sawRefusal h (isDenied (seenDue h (step i)) r)
-sawStep h i (Stepping.Moved t) = sawEvent h (step i) (h .pending) (h .starts) (h .completed) (seenDue h (step i)) t
-sawStep h i (Stepping.Waited t) = sawEvent h (step i) (h .pending) (h .starts) (h .completed) (seenDue h (step i)) t
+sawStep h i (Stepping.Moved t) = sawEvent h (step i) (h .pending) (h .sights) (h .starts) (h .completed) (seenDue h (step i)) t
+sawStep h i (Stepping.Waited t) = sawEvent h (step i) (h .pending) (h .sights) (h .starts) (h .completed) (seenDue h (step i)) t
+sawStep h i (Stepping.Shown t x) =
+    sawEvent h (step i) (h .pending) (sightsAt (h .sights) i (record { item = x; tick = tickOf h } ∷ h .sights i)) (h .starts) (h .completed)
+    (seenDue h (step i)) t
 sawStep h i (Stepping.Finished f) =
-    sawEvent h (step i) (pendingAt (h .pending) i no-call) (h .starts) (finished (h .pending i) i f (tickOf h) (h .completed)) (seenDue h (step i)) (f .finish)
+    sawEvent h (step i) (pendingAt (h .pending) i no-call) (h .sights) (h .starts)
+    (finished (h .pending i) i (h .sights i) f (tickOf h) (h .completed)) (seenDue h (step i)) (f .finish)
 
 unfoldable pub sawLook : Seen → (key back : ℕ) → Looking → Seen
 sawLook h k back o =
-    seenOf (h .processes) (h .limit) (h .log) (h .pending) (h .starts) (h .completed)
+    seenOf (h .processes) (h .limit) (h .log) (h .pending) (h .sights) (h .starts) (h .completed)
     (record { key = k; back = back; tick = length (h .log); outcome = o } ∷ h .queries) (h .faults)
 
 -- ---- a list of entries, as the observer has it
@@ -99,43 +106,28 @@ saw s (looked k back o) = sawLook s k back o
 unfoldable pub faultsOf : (processes limit : ℕ) → List Observation → ℕ
 faultsOf p l [] = 0
 faultsOf p l (e ∷ es) =
-    saw (seenOf p l (logOf es) (pendingIn es) (startsIn es) (completedIn es) (queriesIn es) (faultsOf p l es)) e .faults
+    saw (seenOf p l (logOf es) (pendingIn es) (sightsIn es) (startsIn es) (completedIn es) (queriesIn es) (faultsOf p l es)) e .faults
 
 abbrev pub seen : History → Seen
-seen h = seenOf (h .processes) (h .limit) (logOf (h .entries)) (pendingIn (h .entries)) (startsIn (h .entries))
-    (completedIn (h .entries)) (queriesIn (h .entries)) (faultsOf (h .processes) (h .limit) (h .entries))
+seen h = seenOf (h .processes) (h .limit) (logOf (h .entries)) (pendingIn (h .entries)) (sightsIn (h .entries))
+    (startsIn (h .entries)) (completedIn (h .entries)) (queriesIn (h .entries)) (faultsOf (h .processes) (h .limit) (h .entries))
 
 pub seen-more : (h : History) (e : Observation) → seen (noted h e) ≡ saw (seen h) e
-unfolding saw sawStart sawStep sawLook faultsOf logOf pendingIn startsIn completedIn queriesIn
+unfolding saw sawStart sawStep sawLook faultsOf logOf pendingIn sightsIn startsIn completedIn queriesIn
 seen-more h (started i op (Starting.Refused r)) = refl
 seen-more h (started i op (Starting.Started t)) = refl
 seen-more h (stepped i (Stepping.Refused r)) = refl
 seen-more h (stepped i (Stepping.Moved t)) = refl
 seen-more h (stepped i (Stepping.Waited t)) = refl
+seen-more h (stepped i (Stepping.Shown t x)) = refl
 seen-more h (stepped i (Stepping.Finished f)) = refl
 seen-more h (looked k back o) = refl
 
--- ---- the effects: every call that a step ends is a put or a get, and took effect
-
-unfoldable pub endedEffects : List Completed → List Effected
-endedEffects [] = []
-endedEffects (c ∷ cs) = record { process = c .process; invoked = c .invoked; tick = c .told .effect } ∷ endedEffects cs
+-- ---- the effects
 
 unfoldable pub effectsSeen : (ℕ → Status) → Seen → List Effected
-effectsSeen s h = endedEffects (h .completed) ++ runningEffects s (h .pending) (h .processes)
-
-all-ended : (cs : List Completed) → completedEffects cs ≡ endedEffects cs
-unfolding completedEffects endedEffects
-all-ended [] = refl
-all-ended (c ∷ cs) = by (c .invoked .operation) ∙ ap (λ es. record { process = c .process; invoked = c .invoked; tick = c .told .effect } ∷ es) (all-ended cs)
-  where
-    here : List Effected
-    here = record { process = c .process; invoked = c .invoked; tick = c .told .effect } ∷ completedEffects cs
-
-    by : (op : Operation) → (if takesEffect op then here else completedEffects cs) ≡ here
-    by (put k v t draw) = refl
-    by (get k) = refl
+effectsSeen s h = completedEffects (h .completed) ++ runningEffects s (h .pending) (h .processes)
 
 pub effects-seen : (s : ℕ → Status) (h : History) → effectsOf s h ≡ effectsSeen s (seen h)
 unfolding effectsOf effectsSeen
-effects-seen s h = ap (λ es. es ++ runningEffects s (pendingIn (h .entries)) (h .processes)) (all-ended (completedIn (h .entries)))
+effects-seen s h = refl

@@ -16,7 +16,7 @@ withState w s = record { state = s; nodes = w .nodes; versions = w .versions; ta
 -- there are counts."
 abbrev pub freshStore : Opened → Store
 freshStore o =
-    record { state = o .result .state; nodes = o .nodes; versions = o .versions; tally = replicate (limits .answers) 0 }
+    record { state = o .result .state; nodes = o .nodes; versions = o .versions; tally = replicate (limits .tally) 0 }
 
 -- what the fitter lends and asks for
 pub record Given : Type 0 where

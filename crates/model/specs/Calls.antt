@@ -6,12 +6,12 @@ use mathlib.Core.List.{List}
 use lib.Count.{trailingZeros}
 use lib.Dec.{eqb, ltb, leb}
 use lib.ListN.{length, getD, set, replicate}
-use Rattle.model.specs.Types.{Kind, Put, Get, Walk, Answer, None, Refusal, NodeLength, VersionLength, ProcessCount, EventLimit, NoProcess, BadKey, Busy, NoCall, Spent, Corrupt, Damaged, NoKey, NoVersion, Call, Process, State, Permit, Granted, Denied, Move, Refuse, Wait, Go, Note, Commit, End, Opening, OpenResult, Starting, StartResult, Stepping, Looking, Status}
+use Rattle.model.specs.Types.{Kind, Put, Get, Scan, Walk, Answer, None, Refusal, NodeLength, VersionLength, ProcessCount, EventLimit, NoProcess, BadKey, BadRange, Busy, NoCall, Spent, Corrupt, Damaged, NoKey, NoVersion, Call, Process, State, Permit, Granted, Denied, Move, Refuse, Wait, Go, Note, Commit, Show, End, Opening, OpenResult, Starting, StartResult, Stepping, Looking, Status}
 use Rattle.model.specs.Choice.{if_then_else_}
 use Rattle.model.specs.Layout.{Memory, topLevel, levels, limits, key, newest, prev, versionAt, freshNodes}
-use Rattle.model.specs.Numbers.{placeOf}
+use Rattle.model.specs.Numbers.{answerNumber, isCounted}
 use Rattle.model.specs.Roles.{isIdle}
-use Rattle.model.specs.Requests.{Fitting, Operation, put, get, keyOf}
+use Rattle.model.specs.Requests.{Fitting, Operation, put, get, scan, firstOf, lastOf}
 use Rattle.model.specs.State.{idleProcess, processAt, freshState, closedState, withEvent, memoryOf, within, lawfulNodes, lawfulVersions, lawfulKey, lawfulState, lawfulStore}
 use Rattle.model.specs.Phases.{Moved, refuses, usedVersion, transitionOf}
 
@@ -73,15 +73,16 @@ noSuch s i = leb (s .processes) i
 abbrev pub spent : State → Bool
 spent s = leb (s .limit) (s .events)
 
--- "7 busy"; "Start: 10, 5, 6, 7, 9."
-unfoldable pub startPermit : State → (nodes versions : List ℕ) → (process key : ℕ) → Permit
-startPermit s nodes versions i k =
+-- "7 busy"; "Start: 10, 5, 6, 7, 9." P1: "6 reads both ends"; "17, first above last, after 6"
+unfoldable pub startPermit : State → (nodes versions : List ℕ) → (process first last : ℕ) → Permit
+startPermit s nodes versions i first last =
     denyIf (not (lawfulStore s nodes versions)) Corrupt
     (denyIf (noSuch s i) NoProcess
-    (denyIf (not (lawfulKey k)) BadKey
+    (denyIf (not (lawfulKey first && lawfulKey last)) BadKey
+    (denyIf (ltb last first) BadRange
     (denyIf (not (isIdle (processAt s i .call .kind))) Busy
     (denyIf (spent s) Spent
-    Granted))))
+    Granted)))))
 
 -- "Walk (start: L 5, p 0)"; nothing remembered, nothing made, "(before it, none and 0)"
 abbrev pub begun : Call → Process
@@ -99,11 +100,12 @@ startBy Granted s i call = record { outcome = Starting.Started (s .events + 1); 
 
 -- the call that a process keeps: of a draw the top level that it gives
 unfoldable pub callFor : Operation → (start : ℕ) → Call
-callFor (put k v t draw) tick = record { kind = Put; key = k; value = v; timestamp = t; top = topOf draw; start = tick }
-callFor (get k) tick = record { kind = Get; key = k; value = 0; timestamp = 0; top = 0; start = tick }
+callFor (put k v t draw) tick = record { kind = Put; key = k; last = k; value = v; timestamp = t; top = topOf draw; start = tick }
+callFor (get k) tick = record { kind = Get; key = k; last = k; value = 0; timestamp = 0; top = 0; start = tick }
+callFor (scan first last) tick = record { kind = Scan; key = first; last = last; value = 0; timestamp = 0; top = 0; start = tick }
 
 unfoldable pub startOf : State → (nodes versions : List ℕ) → (process : ℕ) → Operation → StartResult
-startOf s nodes versions i op = startBy (startPermit s nodes versions i (keyOf op)) s i (callFor op (s .events + 1))
+startOf s nodes versions i op = startBy (startPermit s nodes versions i (firstOf op) (lastOf op)) s i (callFor op (s .events + 1))
 
 -- ---- step
 
@@ -125,7 +127,7 @@ pub record Stepped : Type 0 where
 -- "8 step with no call running"; "Step: 10, 5, 8, 9, 11."; 10 "at a step a tally of more or fewer words than there are counts"; for 11 see the phases
 unfoldable pub stepPermit : Store → (process : ℕ) → Permit
 stepPermit w i =
-    denyIf (not (lawfulStore (w .state) (w .nodes) (w .versions) && eqb (length (w .tally)) (limits .answers))) Corrupt
+    denyIf (not (lawfulStore (w .state) (w .nodes) (w .versions) && eqb (length (w .tally)) (limits .tally))) Corrupt
     (denyIf (noSuch (w .state) i) NoProcess
     (denyIf (isIdle (processAt (w .state) i .call .kind)) NoCall
     (denyIf (spent (w .state)) Spent
@@ -143,6 +145,7 @@ processAfter tick p (Note c) = record {
   preds = set (p .preds) (p .cursor .level) (p .cursor .pred);
 }
 processAfter tick p (Commit c a) = record { call = p .call; cursor = c; effect = record { answer = a; tick = tick }; preds = p .preds }
+processAfter tick p (Show c x) = record { call = p .call; cursor = c; effect = p .effect; preds = p .preds }
 processAfter tick p (End a v e) = idleProcess
 
 -- "A finishing step answers kind, answer, value, stamp [..] and the ticks of start, effect and finish."
@@ -152,6 +155,8 @@ outcomeOf tick call Wait = Stepping.Waited tick
 outcomeOf tick call (Go c) = Stepping.Moved tick
 outcomeOf tick call (Note c) = Stepping.Moved tick
 outcomeOf tick call (Commit c a) = Stepping.Moved tick
+-- P1: "shows its number and newest reading"
+outcomeOf tick call (Show c x) = Stepping.Shown tick x
 outcomeOf tick call (End a v e) = Stepping.Finished (record {
   kind = call .kind;
   answer = a;
@@ -162,11 +167,11 @@ outcomeOf tick call (End a v e) = Stepping.Finished (record {
   finish = tick;
 })
 
--- "the one count of that answer grows by one in place, and a count at 4,294,967,295 stays"
+-- "the one count of that answer grows by one in place, and a count at 4,294,967,295 stays"; of a sweep P1 says: "no tally counts it"
 unfoldable pub counted : List ℕ → Answer → List ℕ
 counted t a =
-    if ltb (getD t (placeOf a) 0) (limits .count)
-    then set t (placeOf a) (getD t (placeOf a) 0 + 1)
+    if isCounted a && ltb (getD t (answerNumber a) 0) (limits .count)
+    then set t (answerNumber a) (getD t (answerNumber a) 0 + 1)
     else t
 
 unfoldable pub tallyAfter : List ℕ → Move → List ℕ
@@ -175,6 +180,7 @@ tallyAfter t Wait = t
 tallyAfter t (Go c) = t
 tallyAfter t (Note c) = t
 tallyAfter t (Commit c a) = t
+tallyAfter t (Show c x) = t
 tallyAfter t (End a v e) = counted t a
 
 -- one event of process i: its move, and the memory that it left

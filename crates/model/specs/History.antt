@@ -1,13 +1,13 @@
 -- What is seen of a list of calls: each action with its outcome, and nothing of the store inside. From these alone are read the
--- events, the call that each process has, the finished calls, the looks, and which refusal was due.
+-- events, the call that each process has and what it has shown, the finished calls, the looks, and which refusal was due.
 use Prim.Native.Nat.{ℕ, suc}
-use mathlib.Core.Bool.{Bool, true, false, not}
+use mathlib.Core.Bool.{Bool, true, false, not, _&&_}
 use mathlib.Core.List.{List, [], _∷_, _++_}
-use lib.Dec.{eqb, leb}
+use lib.Dec.{eqb, ltb, leb}
 use lib.ListN.{length}
-use Rattle.model.specs.Types.{NoProcess, BadKey, Busy, NoCall, Spent, Permit, Granted, Denied, Finish, Starting, Stepping, Looking}
+use Rattle.model.specs.Types.{NoProcess, BadKey, BadRange, Busy, NoCall, Spent, Permit, Granted, Denied, Item, Finish, Starting, Stepping, Looking}
 use Rattle.model.specs.Choice.{if_then_else_}
-use Rattle.model.specs.Requests.{Fitting, Operation, keyOf}
+use Rattle.model.specs.Requests.{Fitting, Operation, firstOf, lastOf}
 use Rattle.model.specs.State.{lawfulKey}
 use Rattle.model.specs.Calls.{denyIf}
 use Rattle.model.specs.System.{After, System}
@@ -44,6 +44,7 @@ refusalIn (started i op (Starting.Started t)) = Granted
 refusalIn (stepped i (Stepping.Refused r)) = Denied r
 refusalIn (stepped i (Stepping.Moved t)) = Granted
 refusalIn (stepped i (Stepping.Waited t)) = Granted
+refusalIn (stepped i (Stepping.Shown t x)) = Granted
 refusalIn (stepped i (Stepping.Finished f)) = Granted
 refusalIn (looked k back (Looking.Refused r)) = Denied r
 refusalIn (looked k back (Looking.Shown v)) = Granted
@@ -92,12 +93,37 @@ pendingAfter (started i op (Starting.Started t)) tick f = pendingAt f i (has-cal
 pendingAfter (stepped i (Stepping.Refused r)) tick f = f
 pendingAfter (stepped i (Stepping.Moved t)) tick f = f
 pendingAfter (stepped i (Stepping.Waited t)) tick f = f
+pendingAfter (stepped i (Stepping.Shown t x)) tick f = f
 pendingAfter (stepped i (Stepping.Finished d)) tick f = pendingAt f i no-call
 pendingAfter (looked k back o) tick f = f
 
 unfoldable pub pendingIn : List Observation → (process : ℕ) → Pending
 pendingIn [] = λ i. no-call
 pendingIn (e ∷ es) = pendingAfter e (tickAfter es) (pendingIn es)
+
+-- P1: what a step was seen to show, and the tick of that event
+pub record Sight : Type 0 where
+  pub item : Item
+  pub tick : ℕ
+
+unfoldable pub sightsAt : (ℕ → List Sight) → ℕ → List Sight → ℕ → List Sight
+sightsAt f i ss j = if eqb j i then ss else f j
+
+-- what the last call of each process has shown after an entry, an event of this tick if it is one
+abbrev pub sightsAfter : Observation → (tick : ℕ) → (ℕ → List Sight) → ℕ → List Sight
+sightsAfter (started i op (Starting.Refused r)) tick f = f
+sightsAfter (started i op (Starting.Started t)) tick f = sightsAt f i []
+sightsAfter (stepped i (Stepping.Refused r)) tick f = f
+sightsAfter (stepped i (Stepping.Moved t)) tick f = f
+sightsAfter (stepped i (Stepping.Waited t)) tick f = f
+sightsAfter (stepped i (Stepping.Shown t x)) tick f = sightsAt f i (record { item = x; tick = tick } ∷ f i)
+sightsAfter (stepped i (Stepping.Finished d)) tick f = f
+sightsAfter (looked k back o) tick f = f
+
+-- newest first
+unfoldable pub sightsIn : List Observation → (process : ℕ) → List Sight
+sightsIn [] = λ i. []
+sightsIn (e ∷ es) = sightsAfter e (tickAfter es) (sightsIn es)
 
 abbrev pub isStart : Observation → Bool
 isStart (started i op o) = accepted (refusalIn (started i op o))
@@ -109,29 +135,31 @@ unfoldable pub startsIn : List Observation → ℕ
 startsIn [] = 0
 startsIn (e ∷ es) = if isStart e then suc (startsIn es) else startsIn es
 
--- "Finished are the calls whose finishing answer was given within the list": what was told, and the tick of the event
--- that ended it
+-- "Finished are the calls whose finishing answer was given within the list": what was shown, what was told, and the tick of the
+-- event that ended it
 pub record Completed : Type 0 where
   pub process : ℕ
   pub invoked : Invoked
+  pub shown : List Sight
   pub told : Finish
   pub ended : ℕ
 
-abbrev pub finished : Pending → (process : ℕ) → Finish → (tick : ℕ) → List Completed → List Completed
-finished no-call i d tick cs = cs
-finished (has-call c) i d tick cs = record { process = i; invoked = c; told = d; ended = tick } ∷ cs
+abbrev pub finished : Pending → (process : ℕ) → List Sight → Finish → (tick : ℕ) → List Completed → List Completed
+finished no-call i ss d tick cs = cs
+finished (has-call c) i ss d tick cs = record { process = i; invoked = c; shown = ss; told = d; ended = tick } ∷ cs
 
-abbrev pub completedAfter : Observation → (tick : ℕ) → (ℕ → Pending) → List Completed → List Completed
-completedAfter (started i op o) tick f cs = cs
-completedAfter (stepped i (Stepping.Refused r)) tick f cs = cs
-completedAfter (stepped i (Stepping.Moved t)) tick f cs = cs
-completedAfter (stepped i (Stepping.Waited t)) tick f cs = cs
-completedAfter (stepped i (Stepping.Finished d)) tick f cs = finished (f i) i d tick cs
-completedAfter (looked k back o) tick f cs = cs
+abbrev pub completedAfter : Observation → (tick : ℕ) → (ℕ → Pending) → (ℕ → List Sight) → List Completed → List Completed
+completedAfter (started i op o) tick f g cs = cs
+completedAfter (stepped i (Stepping.Refused r)) tick f g cs = cs
+completedAfter (stepped i (Stepping.Moved t)) tick f g cs = cs
+completedAfter (stepped i (Stepping.Waited t)) tick f g cs = cs
+completedAfter (stepped i (Stepping.Shown t x)) tick f g cs = cs
+completedAfter (stepped i (Stepping.Finished d)) tick f g cs = finished (f i) i (g i) d tick cs
+completedAfter (looked k back o) tick f g cs = cs
 
 unfoldable pub completedIn : List Observation → List Completed
 completedIn [] = []
-completedIn (e ∷ es) = completedAfter e (tickAfter es) (pendingIn es) (completedIn es)
+completedIn (e ∷ es) = completedAfter e (tickAfter es) (pendingIn es) (sightsIn es) (completedIn es)
 
 -- ---- looks
 
@@ -157,15 +185,16 @@ abbrev pub isFree : Pending → Bool
 isFree no-call = true
 isFree (has-call c) = false
 
--- "Start: 10, 5, 6, 7, 9. Step: 10, 5, 8, 9, 11. Look: 10, 6, 12, 11, 13": of these, what is due after so many events, with these
+-- "Start: 10, 5, 6, 7, 9.", with P1 10, 5, 6, 17, 7, 9; "Step: 10, 5, 8, 9, 11. Look: 10, 6, 12, 11, 13": of these, what is due after so many events, with these
 -- calls pending. 10 and 11 never are; 12 and 13 are the map's to say.
 unfoldable pub due : (processes limit events : ℕ) → (ℕ → Pending) → Action → Permit
 due processes limit events pending (start i op) =
     denyIf (leb processes i) NoProcess
-    (denyIf (not (lawfulKey (keyOf op))) BadKey
+    (denyIf (not (lawfulKey (firstOf op) && lawfulKey (lastOf op))) BadKey
+    (denyIf (ltb (lastOf op) (firstOf op)) BadRange
     (denyIf (not (isFree (pending i))) Busy
     (denyIf (leb limit events) Spent
-    Granted)))
+    Granted))))
 due processes limit events pending (step i) =
     denyIf (leb processes i) NoProcess
     (denyIf (isFree (pending i)) NoCall

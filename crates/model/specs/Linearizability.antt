@@ -8,23 +8,24 @@
 --   plain ledger, its K and V        the sequential map (`Map`), K and W
 --   standing                         status
 --   event; took effect               event: an accepted start, or a step not refused; effect: the linearization point
+--   sweep of a span                  scan
 use Prim.Native.Nat.{ℕ, zero, suc, _+_, _*_, _≤_, _<_}
-use mathlib.Core.Bool.{Bool, true}
+use mathlib.Core.Bool.{Bool, true, false}
 use mathlib.Core.List.{List, [], _∷_, _++_}
 use mathlib.Core.Logic.{_≢_, _⊎_}
 use mathlib.Core.Path.{_≡_}
 use lib.Dec.{eqb, leb}
 use lib.ListN.{length, getD}
-use Rattle.model.specs.Types.{NoProcess, Busy, Permit, Granted, Denied, Counts, Finish, Starting, Stepping, Looking, Inspecting, Status}
+use Rattle.model.specs.Types.{Found, Swept, NoProcess, Busy, Permit, Granted, Denied, Counts, Finish, Starting, Stepping, Looking, Inspecting, Status}
 use Rattle.model.specs.Choice.{if_then_else_}
 use Rattle.model.specs.Layout.{limits, nodeWords, versionWords}
-use Rattle.model.specs.Numbers.{numberOf, placeOf}
-use Rattle.model.specs.Requests.{Fitting, Operation, put, get, kindOf}
-use Rattle.model.specs.Map.{Map, held, Reply, applied, lookIn}
+use Rattle.model.specs.Numbers.{numberOf, answerNumber, noVersion}
+use Rattle.model.specs.Requests.{Fitting, Operation, put, get, scan, kindOf}
+use Rattle.model.specs.Map.{Map, versionsOf, held, Reply, getFrom, applied, lookIn}
 use Rattle.model.specs.State.{lawfulKey}
 use Rattle.model.specs.Calls.{openDue}
 use Rattle.model.specs.System.{Opens, refused, opened, System, View, viewOf}
-use Rattle.model.specs.History.{Action, step, look, Observation, started, stepped, looked, actionOf, History, refusalIn, logOf, eventsIn, tickAfter, Invoked, Pending, no-call, has-call, pendingIn, startsIn, Completed, completedIn, Query, queriesIn, dueAfter, Run, performAll, begin}
+use Rattle.model.specs.History.{Action, step, look, Observation, started, stepped, looked, actionOf, History, refusalIn, logOf, eventsIn, tickAfter, Invoked, Pending, no-call, has-call, pendingIn, Sight, sightsIn, startsIn, Completed, completedIn, Query, queriesIn, dueAfter, Run, performAll, begin}
 
 -- ---- lists
 
@@ -51,6 +52,8 @@ pub record Effected : Type 0 where
 abbrev pub takesEffect : Operation → Bool
 takesEffect (put k v t draw) = true
 takesEffect (get k) = true
+-- P1: "only finished puts and gets must have taken effect"
+takesEffect (scan first last) = false
 
 -- Whether a finished call must have taken effect: by what was started and what ended it, whatever was answered. A step ends
 -- every call, today.
@@ -108,6 +111,25 @@ abbrev pub StepAt : List Action → (tick process : ℕ) → Type 0
 StepAt log zero i = ⊥
 StepAt log (suc t) i = getD log t (look 0 0) ≡ step i
 
+-- ---- P1: what a call shows
+
+-- "Each reading shown was newest at its tick", and its tray lies in the span
+pub record Sighted (K W : ℕ) (es : List Effected) (first last : ℕ) (s : Sight) : Type 0 where
+  pub above : first ≤ s .item .key
+  pub below : s .item .key ≤ last
+  pub newest : getFrom (mapAfter es (s .tick) K W) (s .item .key) ≡ record { answer = Found; version = s .item .version }
+
+-- "trays rise": the newest sight, which stands first, has a greater key than every older one. So none is shown twice.
+abbrev pub Rising : List Sight → Type 0
+Rising [] = Unit {0}
+Rising (s ∷ ss) = All (λ (t : Sight). t .item .key < s .item .key) ss × Rising ss
+
+-- what a call may have shown so far: no call but a scan shows anything
+abbrev pub Shows : (K W : ℕ) → List Effected → Operation → List Sight → Type 0
+Shows K W es (put k v t draw) ss = ss ≡ []
+Shows K W es (get k) ss = ss ≡ []
+Shows K W es (scan first last) ss = All (Sighted K W es first last) ss × Rising ss
+
 -- ---- a finished call
 
 -- what it reports, but for its effect
@@ -132,20 +154,44 @@ pub record TookEffect (K W : ℕ) (log : List Action) (es : List Effected) (c : 
   -- "for each finished one it gives exactly the answer, value and stamp that the store gave."
   pub answer : applied K W (mapBefore es (c .told .effect) K W) (c .invoked .operation) .reply ≡ replyTold (c .told)
 
+-- a finished scan
+pub record ScanEnded (K W : ℕ) (es : List Effected) (first last : ℕ) (c : Completed) : Type 0 where
+  -- P1: "finishes, with answer 'swept', value 0 and stamp 0. The sweep's effect tick is 0"
+  pub answer : replyTold (c .told) ≡ record { answer = Swept; version = noVersion }
+  pub effect : c .told .effect ≡ 0
+  -- "when it finishes, every tray of the span held at its start was shown exactly once": at most once by `Rising`, as are later ones
+  pub whole : (k : ℕ) → first ≤ k → k ≤ last → versionsOf (mapAfter es (c .invoked .start) K W) k ≢ []
+      → Any (λ (s : Sight). s .item .key ≡ k) (c .shown)
+
+-- what ends a call that takes no effect
+abbrev pub EndsWithout : (K W : ℕ) → List Effected → Completed → Operation → Type 0
+EndsWithout K W es c (put k v t draw) = Unit {0}
+EndsWithout K W es c (get k) = Unit {0}
+EndsWithout K W es c (scan first last) = ScanEnded K W es first last c
+
 pub record Settled (K W : ℕ) (log : List Action) (es : List Effected) (c : Completed) : Type 0 where
   pub reported : Reported c
   pub took-effect : mustTakeEffect c ≡ true → TookEffect K W log es c
+  pub showed : Shows K W es (c .invoked .operation) (c .shown)
+  pub ended : EndsWithout K W es c (c .invoked .operation)
 
 -- ---- a running call, a look, a count, a refusal
 
--- status shows the call that was started, "and that too is the tick of a step of its station after its start"
+-- status shows the call that was started, "and that too is the tick of a step of its station after its start"; P1: "The sweep's effect
+-- tick is 0"
 abbrev pub StandsFor : List Action → (process : ℕ) → Pending → Status → Type 0
 StandsFor log i c (Status.Refused r) = ⊥
 StandsFor log i no-call Status.Idle = Unit {0}
 StandsFor log i (has-call c) Status.Idle = ⊥
 StandsFor log i no-call (Status.Running kind start e) = ⊥
 StandsFor log i (has-call c) (Status.Running kind start e) =
-    (kind ≡ kindOf (c .operation)) × (start ≡ c .start) × (e ≢ 0 → StepAt log e i × (c .start < e))
+    (kind ≡ kindOf (c .operation)) × (start ≡ c .start) × (takesEffect (c .operation) ≡ false → e ≡ 0)
+    × (e ≢ 0 → StepAt log e i × (c .start < e))
+
+-- what a running call has shown so far
+abbrev pub HasShown : (K W : ℕ) → List Effected → Pending → List Sight → Type 0
+HasShown K W es no-call ss = Unit {0}
+HasShown K W es (has-call c) ss = Shows K W es (c .operation) ss
 
 -- what a lawful key shows; refusal 6 is said in `AsDue`
 abbrev pub AnswersFrom : Map → Query → Type 0
@@ -154,7 +200,7 @@ AnswersFrom b q = lawfulKey (q .key) ≡ true → q .outcome ≡ lookIn b (q .ke
 -- the finished calls whose answer is counted at this place of the tally
 unfoldable pub countedAt : (place : ℕ) → List Completed → ℕ
 countedAt n [] = 0
-countedAt n (c ∷ cs) = (if eqb (placeOf (c .told .answer)) n then 1 else 0) + countedAt n cs
+countedAt n (c ∷ cs) = (if eqb (answerNumber (c .told .answer)) n then 1 else 0) + countedAt n cs
 
 abbrev pub runningAs : Status → ℕ
 runningAs (Status.Refused r) = 0
@@ -189,6 +235,7 @@ TickTold tick (started i op (Starting.Started t)) = t ≡ tick
 TickTold tick (stepped i (Stepping.Refused r)) = Unit {0}
 TickTold tick (stepped i (Stepping.Moved t)) = t ≡ tick
 TickTold tick (stepped i (Stepping.Waited t)) = t ≡ tick
+TickTold tick (stepped i (Stepping.Shown t x)) = t ≡ tick
 TickTold tick (stepped i (Stepping.Finished f)) = f .finish ≡ tick
 TickTold tick (looked k back o) = Unit {0}
 
@@ -206,10 +253,13 @@ pub record Demanded (K W : ℕ) (v : View) (h : History) : Type 0 where
   -- document 01": by `mapAfter`; status shows those that run, and no two have one tick
   pub running : (i : ℕ) → i < h .processes → StandsFor (logOf (h .entries)) i (pendingIn (h .entries) i) (v .status i)
   pub distinct : Distinct (effectsOf (v .status) h)
+  -- P1: "Each reading shown was newest at its tick; trays rise": of the finished scans in `Settled`, of the running ones here
+  pub shown : (i : ℕ) → i < h .processes
+      → HasShown K W (effectsOf (v .status) h) (pendingIn (h .entries) i) (sightsIn (h .entries) i)
   -- "Each look answers from that ledger as it then stood."
   pub looks : All (λ (q : Query). AnswersFrom (mapAfter (effectsOf (v .status) h) (q .tick) K W) q) (queriesIn (h .entries))
   -- "Each tally count is the number of finished calls with its answer."
-  pub tally : (n : ℕ) → n < limits .answers → getD (v .tally) n 0 ≡ countedAt n (completedIn (h .entries))
+  pub tally : (n : ℕ) → n < limits .tally → getD (v .tally) n 0 ≡ countedAt n (completedIn (h .entries))
   -- "Accepted starts = finished calls + running calls."
   pub starts : startsIn (h .entries) ≡ length (completedIn (h .entries)) + runningBelow (v .status) (h .processes)
   -- "No damage is reported."
@@ -226,10 +276,10 @@ pub record Beyond (K W : ℕ) (v : View) (h : History) : Type 0 where
   pub limit : eventsIn (h .entries) ≤ h .limit
   -- the counts of nodes and versions in use are the map's
   pub counts : v .counts ≡ countsOf (mapAfter (effectsOf (v .status) h) (eventsIn (h .entries)) K W)
-  -- refusals 5 to 9 are given just when they are due
+  -- refusals 5 to 9 and 17 are given just when they are due
   pub refusals : Along (λ es e. AsDue (dueAfter (h .processes) (h .limit) es (actionOf e)) e) (h .entries)
-  -- "There are seven counts, one an answer."
-  pub tally-words : length (v .tally) ≡ limits .answers
+  -- "There are seven counts"
+  pub tally-words : length (v .tally) ≡ limits .tally
   -- "Standing: 10, 5": of these only 5, and just where it is due
   pub no-process : (i : ℕ) → h .processes ≤ i → v .status i ≡ Status.Refused NoProcess
   -- "7 busy (also inspection while any station below the count has a call)"

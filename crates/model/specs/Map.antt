@@ -3,10 +3,10 @@ use Prim.Native.Nat.{ℕ, zero, suc, _+_}
 use mathlib.Core.List.{List, [], _∷_, _++_}
 use lib.Dec.{eqb, ltb, leb}
 use lib.ListN.{length}
-use Rattle.model.specs.Types.{Answer, TooOld, VersionsFull, Added, KeysFull, New, Found, None, Version, Looking, NoKey, NoVersion}
+use Rattle.model.specs.Types.{Answer, TooOld, VersionsFull, Added, KeysFull, New, Found, None, Swept, Version, Looking, NoKey, NoVersion}
 use Rattle.model.specs.Choice.{if_then_else_}
 use Rattle.model.specs.Numbers.{noVersion}
-use Rattle.model.specs.Requests.{Operation, put, get}
+use Rattle.model.specs.Requests.{Operation, put, get, scan}
 
 -- "Its state: for each tray a list of (value, stamp), newest first"
 pub record Entry : Type 0 where
@@ -84,6 +84,8 @@ applied K W b (put k v t draw) =
     let o = putIn K W b k own in
     record { map = o .map; reply = record { answer = o .answer; version = own } }
 applied K W b (get k) = record { map = b; reply = getFrom b k }
+-- P1's sweep takes no effect, so that the map is never fed one
+applied K W b (scan first last) = record { map = b; reply = record { answer = Swept; version = noVersion } }
 
 -- "it answers value and stamp of the reading asked, 0 back being the newest, or for a lawful tray 12 where there is no
 -- list and 13 where the list is too short"

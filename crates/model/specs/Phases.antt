@@ -5,7 +5,7 @@ use mathlib.Core.Bool.{Bool, true, false, not, _&&_, _||_}
 use mathlib.Core.List.{List}
 use lib.Dec.{eqb, ltb, leb}
 use lib.ListN.{length, getD}
-use Rattle.model.specs.Types.{Kind, Idle, Put, Get, Phase, Walk, Read, Seek, Lock, Check, Update, Make, Link, Release, Role, Searching, Reading, Writing, Releasing, Answer, TooOld, VersionsFull, Added, KeysFull, New, Found, None, Call, Cursor, Effect, Process, Version, Ahead, Unused, Less, Equal, Past, Move, Refuse, Wait, Go, Note, Commit, End}
+use Rattle.model.specs.Types.{Kind, Idle, Put, Get, Scan, Phase, Walk, Read, Seek, Lock, Check, Update, Make, Link, Release, Follow, Role, Searching, Reading, Writing, Releasing, Following, Answer, TooOld, VersionsFull, Added, KeysFull, New, Found, None, Swept, Call, Cursor, Effect, Process, Version, Ahead, Unused, Less, Equal, Past, Move, Refuse, Wait, Go, Note, Commit, Show, End}
 use Rattle.model.specs.Choice.{if_then_else_}
 use Rattle.model.specs.Layout.{Memory, nodeWords, versionWords, topLevel, capacity, key, newest, next, lock, timestamp, versionAt, withNewest, withNext, withLock, withNode, withVersion}
 use Rattle.model.specs.Numbers.{noVersion}
@@ -24,6 +24,7 @@ refuses Wait = false
 refuses (Go c) = false
 refuses (Note c) = false
 refuses (Commit c a) = false
+refuses (Show c x) = false
 refuses (End a v t) = false
 
 -- the cursor in another phase, level and predecessor
@@ -79,6 +80,8 @@ walked Put call c tick found = Note (at c Seek (c .level) (c .pred))
 walked Get call c tick found =
     if eqb found 0 then ended call None noVersion tick
     else Note (at c Read (c .level) found)
+-- P1: "It walks as a get does to the first, but the walk's last step leaves p before the first and shows nothing."
+walked Scan call c tick found = Note (at c Follow (c .level) (c .pred))
 
 -- "Else remember p at L; above level 0, L falls by one."
 unfoldable pub descend : Call → Cursor → (tick found : ℕ) → Move
@@ -102,6 +105,36 @@ readOf call c tick m =
     let i = newest (m .nodes) (c .pred) in
     if usedVersion m i then ended call Found (versionAt (m .versions) i) tick
     else Refuse
+
+-- ---- follow: P1, "Then it follows level 0, one link a step"
+
+-- "each step that meets a tray of the span moves p there and shows its number and newest reading"
+unfoldable pub showAt : Cursor → (node : ℕ) → Memory → Move
+showAt c y m =
+    let i = newest (m .nodes) y in
+    if usedVersion m i
+    then Show (at c Follow (c .level) y) (record { key = key (m .nodes) y; version = versionAt (m .versions) i })
+    else Refuse
+
+-- "finishes, with answer 'swept', value 0 and stamp 0. The sweep's effect tick is 0"
+abbrev pub swept : Call → Move
+swept call = ended call Swept noVersion 0
+
+-- "a tray past the last (looked at first)"; "A step that meets a tray below the first, made since the walk, moves p there and shows
+-- nothing."
+unfoldable pub followAt : Call → Cursor → (node : ℕ) → Memory → Move
+followAt call c y m =
+    if ltb (call .last) (key (m .nodes) y) then swept call
+    else if ltb (key (m .nodes) y) (call .key) then Go (at c Follow (c .level) y)
+    else showAt c y m
+
+-- "The step that meets the end or a tray past the last [..] finishes": the link of level 0, whatever the level
+unfoldable pub followOf : Call → Cursor → Memory → Move
+followOf call c m =
+    let y = next (m .nodes) 0 (c .pred) in
+    if eqb y 0 then swept call
+    else if ltb (m .counts .nodes) y then Refuse
+    else followAt call c y m
 
 -- ---- seek, lock and check
 
@@ -240,6 +273,7 @@ lawfulEffect k Searching e = noEffect e || (isPut k && fromPut (e .answer))
 lawfulEffect k Reading e = noEffect e
 lawfulEffect k Writing e = noEffect e || fromPut (e .answer)
 lawfulEffect k Releasing e = fromPut (e .answer)
+lawfulEffect k Following e = noEffect e
 
 unfoldable pub lawfulAt : Kind → Role → Effect → Bool
 lawfulAt k role e = plays k role && lawfulEffect k role e
@@ -260,6 +294,7 @@ phaseOf Update holder tick p m = updateOf (p .call) (p .cursor) m
 phaseOf Make holder tick p m = makeOf (p .call) (p .cursor) m
 phaseOf Link holder tick p m = linkOf (p .cursor) m
 phaseOf Release holder tick p m = releaseOf (p .call) (p .cursor) (p .effect) (p .preds) m
+phaseOf Follow holder tick p m = moved m (followOf (p .call) (p .cursor) m)
 
 -- one step of one call: `holder` is the process's number plus 1, `tick` that of this event
 unfoldable pub transitionOf : (holder tick : ℕ) → Process → Memory → Moved

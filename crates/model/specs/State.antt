@@ -10,7 +10,7 @@ use Rattle.model.specs.Layout.{nodeWords, versionWords, levels, limits, 
 -- a process without a call; what document 01 does not name of it is 0
 abbrev pub emptyProcess : Answer → (preds : List ℕ) → Process
 emptyProcess a preds = record {
-  call = record { kind = Idle; key = 0; value = 0; timestamp = 0; top = 0; start = 0 };
+  call = record { kind = Idle; key = 0; last = 0; value = 0; timestamp = 0; top = 0; start = 0 };
   cursor = record { phase = Walk; level = 0; pred = 0; made = 0 };
   effect = record { answer = a; tick = 0 };
   preds = preds;

@@ -2,7 +2,7 @@
 use Prim.Native.Nat.{ℕ, _+_}
 use mathlib.Core.Logic.{_⊎_}
 use mathlib.Core.Path.{_≡_}
-use Rattle.model.specs.Types.{Phase, Walk, Read, Seek, Lock, Check, Update, Make, Link, Release, Cursor}
+use Rattle.model.specs.Types.{Phase, Walk, Read, Seek, Lock, Check, Update, Make, Link, Release, Follow, Cursor}
 use Rattle.model.specs.Layout.{Memory, nodeOffsets, linkAt, lockAt, next}
 
 -- word f of node x
@@ -16,6 +16,7 @@ MayWriteNode Update c m x f = (x ≡ next (m .nodes) 0 (c .pred)) × (f ≡ node
 MayWriteNode Make c m x f = (x ≡ m .counts .nodes + 1) ⊎ ((x ≡ c .pred) × (f ≡ linkAt 0))
 MayWriteNode Link c m x f = ((x ≡ c .made) ⊎ (x ≡ c .pred)) × (f ≡ linkAt (c .level))
 MayWriteNode Release c m x f = (x ≡ c .pred) × (f ≡ lockAt (c .level))
+MayWriteNode Follow c m x f = ⊥
 
 -- a word of version i
 abbrev pub MayWriteVersion : Phase → Memory → (i : ℕ) → Type 0
@@ -28,3 +29,4 @@ MayWriteVersion Update m i = i ≡ m .counts .versions + 1
 MayWriteVersion Make m i = i ≡ m .counts .versions + 1
 MayWriteVersion Link m i = ⊥
 MayWriteVersion Release m i = ⊥
+MayWriteVersion Follow m i = ⊥

@@ -11,6 +11,7 @@ pub enum Kind {
     Idle,
     Put,
     Get,
+    Scan, // document 02's sweep
 }
 
 // Where a call stands. The comment names the procedure of figure 1 that the phase is a part of.
@@ -24,6 +25,7 @@ pub enum Phase {
     Make, // createAndLink
     Link, // link
     Release, // tryInsert, insert: release; insertAll: the next level
+    Follow, // a scan's own, which figure 1 does not have
 }
 
 // What a phase is for: which kinds go through it goes by this.
@@ -32,9 +34,10 @@ pub enum Role {
     Reading, // a get's
     Writing, // a put's
     Releasing, // a put's, once it has its answer
+    Following, // a scan's
 }
 
-// Document 01's answers, in the order in which its plain ledger names them.
+// Document 01's answers, in the order in which its plain ledger names them, and behind them the one that no tally counts.
 pub enum Answer {
     TooOld,
     VersionsFull,
@@ -43,6 +46,7 @@ pub enum Answer {
     New,
     Found,
     None,
+    Swept,
 }
 
 // Whose an answer is: what goes with it, and what may follow it, goes by this.
@@ -51,9 +55,10 @@ pub enum Class {
     OtherPut, // a put's that made none
     Hit, // a get's with a version
     Miss, // a get's without one
+    Scanned, // a scan's
 }
 
-// Document 01's refusals 1 to 16, in its order.
+// Document 01's refusals 1 to 16, in its order, and document 02's behind them.
 pub enum Refusal {
     NodeLength,
     VersionLength,
@@ -71,12 +76,15 @@ pub enum Refusal {
     NotOpen,
     UnknownCommand,
     CutShort,
+    BadRange,
 }
 
-// What was asked, and the tick of its start: no step changes it.
+// What was asked, and the tick of its start: no step changes it. A scan's keys are `key` to `last`; a put and a get have one, their
+// first and their last.
 pub struct Call {
     pub kind: Kind,
     pub key: Key,
+    pub last: Key,
     pub value: u32,
     pub timestamp: u32,
     pub top: u32,
@@ -133,6 +141,12 @@ pub struct Version {
     pub timestamp: u32,
 }
 
+// What a scan shows of a node: its key and its newest version.
+pub struct Item {
+    pub key: Key,
+    pub version: Version,
+}
+
 // Where a node's link leads, against a key.
 pub enum Ahead {
     Unused, // to a node that is not in use
@@ -148,6 +162,7 @@ pub enum Move {
     Go(Cursor), // the cursor moves
     Note(Cursor), // the same, and the predecessor is remembered at its level
     Commit(Cursor, Answer), // the put takes effect with this answer
+    Show(Cursor, Item), // the cursor moves to this node, which is shown
     End(Answer, Version, u32), // the call ends with this answer, version and effect tick
 }
 
@@ -193,6 +208,7 @@ pub enum Stepping {
     Refused(Refusal),
     Moved(u32),
     Waited(u32),
+    Shown(u32, Item),
     Finished(Finish),
 }
 
@@ -231,7 +247,7 @@ pub struct Limits {
     pub processes: u32,
     pub events: u32,
     pub key: Key,
-    pub answers: u32,
+    pub tally: u32,
     pub count: u32,
 }
 
@@ -254,12 +270,17 @@ pub struct VersionOffsets {
 
 impl Kind {
     // How many kinds there are.
-    pub const KINDS: u32 = 3;
+    pub const KINDS: u32 = 4;
 }
 
 impl Phase {
     // How many phases there are.
-    pub const PHASES: u32 = 9;
+    pub const PHASES: u32 = 10;
+}
+
+impl Answer {
+    // How many answers there are, counted or not.
+    pub const ANSWERS: u32 = 8;
 }
 
 impl Process {
@@ -270,6 +291,7 @@ impl Process {
         let call = Call {
             kind: Kind::Idle,
             key: 0,
+            last: 0,
             value: 0,
             timestamp: 0,
             top: 0,
@@ -304,7 +326,7 @@ impl State {
     pub const TOP: u32 = 5;
 
     pub const LEVELS: usize = State::TOP as usize + 1;
-    // At most so many nodes, versions, processes, events and answers, and the greatest key.
+    // At most so many nodes, versions, processes and events, and the greatest key.
     pub const NODES: u32 = 1023;
 
     pub const VERSIONS: u32 = 4095;
@@ -315,8 +337,9 @@ impl State {
 
     pub const KEY: Key = 18446744073709551614;
 
-    pub const ANSWERS: u32 = 7;
-    // The greatest count of the tally: it stays there.
+    // Counts of a tally, one for each answer that it counts, and the greatest count: it stays there.
+    pub const TALLY: u32 = 7;
+
     pub const COUNT: u32 = 4294967295;
 
     // Never called: it ties the constants to the definitions.
@@ -332,7 +355,7 @@ impl State {
             processes: Self::PROCESSES,
             events: Self::EVENTS,
             key: Self::KEY,
-            answers: Self::ANSWERS,
+            tally: Self::TALLY,
             count: Self::COUNT,
         }
     }

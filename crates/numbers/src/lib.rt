@@ -1,7 +1,7 @@
 // Document 01's number of each refusal, the place of each answer in the tally, the number of each kind and phase; and what a number
 // in a word means.
 ghost use mathlib.Core.Path.{_≡_};
-ghost use Rattle.model.specs.Numbers.{numberOf, placeOf, answerOf, kindNumber, kindFrom, phaseNumber, phaseFrom};
+ghost use Rattle.model.specs.Numbers.{numberOf, answerNumber, answerOf, kindNumber, kindFrom, phaseNumber, phaseFrom};
 use model::types::Answer;
 use model::types::Kind;
 use model::types::Phase;
@@ -30,8 +30,8 @@ pub fn number_of(refusal: Refusal) -> u32
     }
 }
 
-pub fn place_of(answer: Answer) -> u32
-    ensures { λ r. ⌜ r ≡ placeOf answer ⌝ }
+pub fn answer_number(answer: Answer) -> u32
+    ensures { λ r. ⌜ r ≡ answerNumber answer ⌝ }
 {
     match answer {
         Answer::TooOld => 0,

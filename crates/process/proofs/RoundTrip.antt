@@ -17,7 +17,7 @@ use Rattle.model.specs.declared.types.Kind.{Kind}
 use Rattle.model.specs.declared.types.Kind.the-variants.{Idle, Put, Get}
 use Rattle.model.specs.declared.types.Phase.{Phase}
 use Rattle.model.specs.declared.types.Phase.the-variants.{Walk, Read, Seek, Lock, Check, Update, Make, Link, Release}
-use Rattle.model.specs.Numbers.{placeOf, kindNumber, kinds, kindFrom, phaseNumber, phases, phaseFrom}
+use Rattle.model.specs.Numbers.{answerNumber, kindNumber, kinds, kindFrom, phaseNumber, phases, phaseFrom}
 use Rattle.process.proofs.Heads.{heads, heads-are, spelt}
 
 -- ---- numbers
@@ -61,12 +61,12 @@ phase-from Release = (refl, refl)
 
 known-facts : (w : List ℕ) → knownProcess w ≡ true
     → (getD w (processOffsets .keylow) 0 < wordSize) × (getD w (processOffsets .kind) 0 < length kinds)
-    × (getD w (processOffsets .phase) 0 < length phases) × (getD w (processOffsets .answer) 0 < limits .answers)
+    × (getD w (processOffsets .phase) 0 < length phases) × (getD w (processOffsets .answer) 0 < limits .tally)
 known-facts w k =
     let key = ltb (getD w (processOffsets .keylow) 0) wordSize in
     let kind = ltb (getD w (processOffsets .kind) 0) (length kinds) in
     let phase = ltb (getD w (processOffsets .phase) 0) (length phases) in
-    let a = and-eq-true-iff (key && kind && phase) (ltb (getD w (processOffsets .answer) 0) (limits .answers)) .0 k in
+    let a = and-eq-true-iff (key && kind && phase) (ltb (getD w (processOffsets .answer) 0) (limits .tally)) .0 k in
     let b = and-eq-true-iff (key && kind) phase .0 (a .0) in
     let c = and-eq-true-iff key kind .0 (b .0) in
     (ltb-true _ _ (c .0), ltb-true _ _ (c .1), ltb-true _ _ (b .1), ltb-true _ _ (a .1))
@@ -112,7 +112,7 @@ process-known p = simp (
   lt-ltb (lowHalf (p .call .key)) wordSize (omega arith),
   kind-from (p .call .kind) .1,
   phase-from (p .cursor .phase) .1,
-  lt-ltb (placeOf (p .effect .answer)) (limits .answers) (place-below (p .effect .answer)),
+  lt-ltb (answerNumber (p .effect .answer)) (limits .tally) (place-below (p .effect .answer)),
 )
 
 -- ---- all parts written

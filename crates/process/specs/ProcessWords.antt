@@ -9,7 +9,7 @@ use Rattle.model.specs.declared.types.Cursor.{Cursor}
 use Rattle.model.specs.declared.types.Effect.{Effect}
 use Rattle.model.specs.declared.types.Process.{Process}
 use Rattle.model.specs.Layout.{levels, wordSize, lowHalf, highHalf, joined}
-use Rattle.model.specs.Numbers.{placeOf, answers, answerOf, kindNumber, kinds, kindFrom, phaseNumber, phases, phaseFrom}
+use Rattle.model.specs.Numbers.{answerNumber, answers, answerOf, kindNumber, kinds, kindFrom, phaseNumber, phases, phaseFrom}
 use Rattle.process.specs.declared.types.Sizes.{Sizes}
 use Rattle.process.specs.declared.types.ProcessOffsets.{ProcessOffsets}
 
@@ -44,7 +44,7 @@ abbrev pub cursorWords : Cursor → List ℕ
 cursorWords c = phaseNumber (c .phase) ∷ c .level ∷ c .pred ∷ c .made ∷ []
 
 abbrev pub effectWords : Effect → List ℕ
-effectWords e = placeOf (e .answer) ∷ e .tick ∷ []
+effectWords e = answerNumber (e .answer) ∷ e .tick ∷ []
 
 abbrev pub processWords : Process → List ℕ
 processWords p = callWords (p .call) ++ cursorWords (p .cursor) ++ effectWords (p .effect) ++ p .preds

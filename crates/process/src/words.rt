@@ -12,12 +12,12 @@ use model::types::Kind;
 use model::types::Phase;
 use model::types::Process;
 use model::types::State;
+use numbers::answer_number;
 use numbers::answer_of;
 use numbers::kind_from;
 use numbers::kind_number;
 use numbers::phase_from;
 use numbers::phase_number;
-use numbers::place_of;
 use values::halves::high_half;
 use values::halves::joined;
 use values::halves::low_half;
@@ -99,7 +99,7 @@ pub fn is_process(w: &[u32]) -> bool
     if Phase::PHASES <= w[ProcessOffsets::PHASE] {
         return false;
     }
-    w[ProcessOffsets::ANSWER] < State::ANSWERS
+    w[ProcessOffsets::ANSWER] < State::TALLY
 }
 
 // A process by value in its words.
@@ -125,7 +125,7 @@ pub fn words_of(p: Process) -> [u32; Sizes::PROCESS]
         c.level,
         c.pred,
         c.made,
-        place_of(answer),
+        answer_number(answer),
         e.tick,
         preds[0],
         preds[1],
@@ -154,7 +154,7 @@ pub fn put_effect(w: &mut [u32], e: Effect)
     ensures { λ r. ⌜ now (w .exit) ≡ sets (now (w .entry)) (processOffsets .answer) (effectWords e) ⌝ }
 {
     let answer = e.answer;
-    w[ProcessOffsets::ANSWER] = place_of(answer);
+    w[ProcessOffsets::ANSWER] = answer_number(answer);
     w[ProcessOffsets::TICK] = e.tick;
 }
 

@@ -130,13 +130,13 @@ may-inspect s nodes versions g = lawful-store s nodes versions (not-false _ ((si
 -- what a step may go by once refusals 10, 5, 8 and 9 are not given
 pub record MayStep (w : Store) (i : ℕ) : Type 0 where
   pub start : MayStart (w .state) (w .nodes) (w .versions) i
-  pub tally : length (w .tally) ≡ limits .answers
+  pub tally : length (w .tally) ≡ limits .tally
 
 pub may-step : (w : Store) (i : ℕ) {p : Permit} → p ≡ stepPermit w i → p ≡ Granted → MayStep w i
 unfolding stepPermit
 may-step w i e g =
     let f = simp granted-iff at (sym e ∙ g) in
-    let t = lawfulStore (w .state) (w .nodes) (w .versions) && eqb (length (w .tally)) (limits .answers) in
+    let t = lawfulStore (w .state) (w .nodes) (w .versions) && eqb (length (w .tally)) (limits .tally) in
     let l = simp and-eq-true-iff at (not-false t (f .0)) in
     record {
       start = record {
@@ -190,19 +190,19 @@ module _
 
     step-kind : (tally : List ℕ)
         → stepPermit (record { state = s; nodes = nodes; versions = versions; tally = tally }) i
-        ≡ denyIf (not (lawfulStore s nodes versions && eqb (length tally) (limits .answers))) Corrupt
+        ≡ denyIf (not (lawfulStore s nodes versions && eqb (length tally) (limits .tally))) Corrupt
         (denyIf (noSuch s i) NoProcess
         (denyIf (isIdle kind) NoCall
         (denyIf (spent s) Spent
         Granted)))
     unfolding stepPermit
     step-kind tally =
-        let t = lawfulStore s nodes versions && eqb (length tally) (limits .answers) in
+        let t = lawfulStore s nodes versions && eqb (length tally) (limits .tally) in
         after-ten-and-five t (s .processes) i _ _
         (λ l j. let f = lawful-store s nodes versions ((simp and-eq-true-iff at l) .0) in simp (found (omega arith)))
 
     -- a step's permit by what each test told
-    pub step-by : (tally : List ℕ) (l t p k e : Bool) → lawfulStore s nodes versions ≡ l → eqb (length tally) (limits .answers) ≡ t
+    pub step-by : (tally : List ℕ) (l t p k e : Bool) → lawfulStore s nodes versions ≡ l → eqb (length tally) (limits .tally) ≡ t
         → noSuch s i ≡ p → isIdle kind ≡ k → spent s ≡ e
         → denyIf (not (l && t)) Corrupt (denyIf p NoProcess (denyIf k NoCall (denyIf e Spent Granted)))
         ≡ stepPermit (record { state = s; nodes = nodes; versions = versions; tally = tally }) i

@@ -94,7 +94,7 @@ pub fn step_permit(
     if !lawful_store(h, nodes, versions) {
         return Permit::Denied(Refusal::Corrupt);
     }
-    if tally.len() != State::ANSWERS as usize {
+    if tally.len() != State::TALLY as usize {
         return Permit::Denied(Refusal::Corrupt);
     }
     if h[HeaderOffsets::PROCESSES] <= process {

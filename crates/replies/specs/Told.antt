@@ -10,7 +10,7 @@ use Rattle.model.specs.declared.types.Stepping.{Stepping}
 use Rattle.model.specs.declared.types.Looking.{Looking}
 use Rattle.model.specs.declared.types.Inspecting.{Inspecting}
 use Rattle.model.specs.declared.types.Status.{Status}
-use Rattle.model.specs.Numbers.{numberOf, placeOf, kindNumber}
+use Rattle.model.specs.Numbers.{numberOf, answerNumber, kindNumber}
 
 pub record Told : Type 0 where
   pub number : ℕ
@@ -68,7 +68,7 @@ eventWords told t = told ∷ t ∷ replicate (stepWords - 2) 0
 -- the same, and "kind, answer, value, stamp [..] and the ticks of start, effect"
 abbrev pub finishWords : Finish → List ℕ
 finishWords f =
-    finished ∷ f .finish ∷ kindNumber (f .kind) ∷ placeOf (f .answer) ∷ f .value ∷ f .timestamp ∷ f .start ∷ f .effect ∷ []
+    finished ∷ f .finish ∷ kindNumber (f .kind) ∷ answerNumber (f .answer) ∷ f .value ∷ f .timestamp ∷ f .start ∷ f .effect ∷ []
 
 unfoldable pub stepTold : Stepping → Told
 stepTold (Stepping.Refused r) = refused stepWords r

@@ -10,9 +10,9 @@ use model::types::Opening;
 use model::types::Starting;
 use model::types::Status;
 use model::types::Stepping;
+use numbers::answer_number;
 use numbers::kind_number;
 use numbers::number_of;
-use numbers::place_of;
 
 // How many words the answer of each call has.
 pub const STEP_WORDS: usize = 8;
@@ -76,7 +76,7 @@ fn finish_words(f: Finish) -> [u32; STEP_WORDS]
         FINISHED,
         f.finish,
         kind_number(kind),
-        place_of(answer),
+        answer_number(answer),
         f.value,
         f.timestamp,
         f.start,

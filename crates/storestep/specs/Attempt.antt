@@ -30,7 +30,7 @@ attemptOf Granted i events p m tally = advanceOf (i + 1) (events + 1) p m tally
 -- what a step that is let pass can count on
 pub record Passed (nodes versions : List ℕ) (counts : Counts) (tally : List ℕ) (process events : ℕ) : Type 0 where
   pub lent : Lent nodes versions counts
-  pub answers : length tally ≡ limits .answers
+  pub answers : length tally ≡ limits .tally
   pub few : process < limits .processes
   pub left : events < limits .events
 

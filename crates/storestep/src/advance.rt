@@ -29,7 +29,7 @@ pub fn advance(
     tally: &mut [u32],
 ) -> Advanced
     requires { ⌜ Lent (now nodes) (now versions) counts ⌝ }
-    requires { ⌜ length (now tally) ≡ limits .answers ⌝ }
+    requires { ⌜ length (now tally) ≡ limits .tally ⌝ }
     ensures { λ r. ⌜ advanced r (now (nodes .exit)) (now (versions .exit)) (now (tally .exit))
         ≡ advanceOf holder tick p (memory (now (nodes .entry)) (now (versions .entry)) counts) (now (tally .entry)) ⌝ }
 {

@@ -11,7 +11,7 @@ use Rattle.model.specs.declared.types.Answer.{Answer}
 use Rattle.model.specs.declared.types.Answer.the-variants.{TooOld, VersionsFull, Added, KeysFull, New, Found, None}
 use Rattle.model.specs.Choice.{if_then_else_}
 use Rattle.model.specs.Layout.{limits}
-use Rattle.model.specs.Numbers.{placeOf}
+use Rattle.model.specs.Numbers.{answerNumber}
 use Rattle.model.specs.Calls.{counted}
 use Rattle.tally.specs.Tally.{moreOf, grownTally}
 use Rattle.tally.specs.Words.{tallyIn, wordsOf}
@@ -24,7 +24,7 @@ heads-are : (k at : ℕ) (w : List ℕ) → at + k ≡ length w → drop at w �
 heads-are zero at w h = let e : at ≡ length w = omega (arith, h) in ap (λ n. drop n w) e ∙ drop-length w
 heads-are (suc k) at w h = drop-cons w at 0 (omega (arith, h)) ∙ ap (λ r. getD w at 0 ∷ r) (heads-are k (suc at) w (omega (arith, h)))
 
-pub seven : (w : List ℕ) → length w ≡ limits .answers → w ≡ wordsOf (tallyIn w)
+pub seven : (w : List ℕ) → length w ≡ limits .tally → w ≡ wordsOf (tallyIn w)
 seven w h = heads-are 7 0 w (sym h)
 
 -- a full count stays: writing it again changes nothing
@@ -33,13 +33,13 @@ counted-set : (w : List ℕ) (i : ℕ) (b : Bool)
 counted-set w i true = refl
 counted-set w i false = sym (set-getD w i 0)
 
-pub counted-grown : (w : List ℕ) (a : Answer) → length w ≡ limits .answers → counted w a ≡ wordsOf (grownTally (tallyIn w) a)
-unfolding counted moreOf placeOf grownTally
+pub counted-grown : (w : List ℕ) (a : Answer) → length w ≡ limits .tally → counted w a ≡ wordsOf (grownTally (tallyIn w) a)
+unfolding counted moreOf answerNumber grownTally
 counted-grown w a h =
-    counted-set w (placeOf a) (ltb (getD w (placeOf a) 0) (limits .count))
-    ∙ ap (λ v. set v (placeOf a) (moreOf (getD w (placeOf a) 0))) (seven w h) ∙ at a
+    counted-set w (answerNumber a) (ltb (getD w (answerNumber a) 0) (limits .count))
+    ∙ ap (λ v. set v (answerNumber a) (moreOf (getD w (answerNumber a) 0))) (seven w h) ∙ at a
   where
-    at : (a : Answer) → set (wordsOf (tallyIn w)) (placeOf a) (moreOf (getD w (placeOf a) 0)) ≡ wordsOf (grownTally (tallyIn w) a)
+    at : (a : Answer) → set (wordsOf (tallyIn w)) (answerNumber a) (moreOf (getD w (answerNumber a) 0)) ≡ wordsOf (grownTally (tallyIn w) a)
     at TooOld = refl
     at VersionsFull = refl
     at Added = refl

@@ -9,7 +9,7 @@ use crate::types::Tally;
 use model::types::Answer;
 
 fn tally_in(words: &[u32]) -> Tally
-    requires { ⌜ length (now words) ≡ limits .answers ⌝ }
+    requires { ⌜ length (now words) ≡ limits .tally ⌝ }
     ensures { λ r. ⌜ r ≡ tallyIn (now (words .entry)) ⌝ }
 {
     Tally {
@@ -24,7 +24,7 @@ fn tally_in(words: &[u32]) -> Tally
 }
 
 fn put_tally(words: &mut [u32], t: Tally)
-    requires { ⌜ length (now words) ≡ limits .answers ⌝ }
+    requires { ⌜ length (now words) ≡ limits .tally ⌝ }
     ensures { λ r. ⌜ now (words .exit) ≡ wordsOf t ⌝ }
 {
     words[0] = t.too_old;
@@ -38,7 +38,7 @@ fn put_tally(words: &mut [u32], t: Tally)
 
 // One more of an answer.
 pub fn count(tally: &mut [u32], answer: Answer)
-    requires { ⌜ length (now tally) ≡ limits .answers ⌝ }
+    requires { ⌜ length (now tally) ≡ limits .tally ⌝ }
     ensures { λ r. ⌜ now (tally .exit) ≡ counted (now (tally .entry)) answer ⌝ }
 {
     let mut t = tally_in(tally);

@@ -21,7 +21,7 @@ returns c =
     λ s e.
     let a = c .before .before .before .before .before .before .args in
     step-by s (a .nodes .now) (a .versions .now) (a .process) (a .kind) (e .found) (a .tally .now)
-    false (eqb (length (a .tally .now)) (limits .answers)) (noSuch s (a .process)) (isIdle (a .kind)) (spent s)
+    false (eqb (length (a .tally .now)) (limits .tally)) (noSuch s (a .process)) (isIdle (a .kind)) (spent s)
     (sym (c .before .lawful-store .ensures s (e .same)) ∙ not-true _ (c .if1 .taken))
     refl
     refl

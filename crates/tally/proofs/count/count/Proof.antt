@@ -86,7 +86,7 @@ module _ {M : Type 1} (𝓤 : URA M) (H : Heap 𝓤) (A : Atoms 𝓤) (mem : Mem
 
 module _ {M : Type 1} (𝓤 : URA M) (H : Heap 𝓤) (A : Atoms 𝓤) (W : Given 𝓤 H A) (mem : Memory → SProp 𝓤) (run : Routine → Fun 𝓤)
     (κ : Lft) (q : Share) (b o : ℕ) (γ : GName) (ys : List ℕ) (a : Answer)
-    (is-a : Is S.the-row a (answerVal a ∷ [])) (room : Room u32 (length ys)) (long : length ys ≡ limits .answers) where
+    (is-a : Is S.the-row a (answerVal a ∷ [])) (room : Room u32 (length ys)) (long : length ys ≡ limits .tally) where
   -- the words under a name, and their machine value
   abbrev x : GName → RefT (List ℕ)
   x δ = record { ptr = (b, o); name = δ; now = ys }
@@ -248,7 +248,7 @@ count-meets 𝓤 H A W mem run 𝓣 known-in known-grow known-put =
     (walked 𝓤 H A f.ended stayed (f.clauses 𝓤 H A mem run) (WpFn 𝓤 H (𝓣 .C) (𝓣 .Λ) code.function)
     (λ κs. (slice-vals, (EL.vals S.the-type S′.the-laws, tt)))
     (λ κs. (mut-slice-tells (named 0) (κs .0) u32, (EL.tells S.the-type S′.the-laws, tt)))
-    (λ κs qs bounds a _ are. needs 𝓤 (length (a .0 .now) ≡ limits .answers) _ (λ long. walk 𝓤 H A W mem run (κs .0) (qs .0)
+    (λ κs qs bounds a _ are. needs 𝓤 (length (a .0 .now) ≡ limits .tally) _ (λ long. walk 𝓤 H A W mem run (κs .0) (qs .0)
     (a .0 .ptr .0) (a .0 .ptr .1) (a .0 .name) (a .0 .now) (a .1 .0) (are .1 .0) (are .0 .0 .1) long
     (𝓣 .C) (𝓣 .Λ) (fmOf 𝓤 H (W .laws) 𝓣) known-in known-grow known-put
     (EL.lawful S.the-type S′.the-laws 𝓤 H A W tt .typed (a .1 .0) _ (are .1 .0) .0))))

@@ -1,8 +1,8 @@
 -- Each arm of the match gives the definition's case.
-use Rattle.model.specs.Numbers.{placeOf}
+use Rattle.model.specs.Numbers.{answerNumber}
 use borrow.Author.Needs.{needs}
-use Rattle.numbers.proofs.place_of.Statement.{statement}
-use Rattle.numbers.proofs.place_of.Tie as tie
+use Rattle.numbers.proofs.answer_number.Statement.{statement}
+use Rattle.numbers.proofs.answer_number.Tie as tie
 
 enum-told : tie.Need-enum-told
 enum-told c = search needs
@@ -26,31 +26,31 @@ enum-told-7 : tie.Need-enum-told-7
 enum-told-7 c = search needs
 
 returns : tie.Need-returns
-unfolding placeOf
+unfolding answerNumber
 returns c = simp (c .enum-told .given .1)
 
 returns-2 : tie.Need-returns-2
-unfolding placeOf
+unfolding answerNumber
 returns-2 c = simp (c .enum-told2 .given .1)
 
 returns-3 : tie.Need-returns-3
-unfolding placeOf
+unfolding answerNumber
 returns-3 c = simp (c .enum-told3 .given .1)
 
 returns-4 : tie.Need-returns-4
-unfolding placeOf
+unfolding answerNumber
 returns-4 c = simp (c .enum-told4 .given .1)
 
 returns-5 : tie.Need-returns-5
-unfolding placeOf
+unfolding answerNumber
 returns-5 c = simp (c .enum-told5 .given .1)
 
 returns-6 : tie.Need-returns-6
-unfolding placeOf
+unfolding answerNumber
 returns-6 c = simp (c .enum-told6 .given .1)
 
 returns-7 : tie.Need-returns-7
-unfolding placeOf
+unfolding answerNumber
 returns-7 c = simp (c .enum-told7 .given .1)
 
 pub place-of-spec : {M : Type 1} → statement M
