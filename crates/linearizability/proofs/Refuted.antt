@@ -67,6 +67,7 @@ abbrev finish : (Finish → Finish) → Stepping → Stepping
 finish f (Stepping.Refused r) = Stepping.Refused r
 finish f (Stepping.Moved t) = Stepping.Moved t
 finish f (Stepping.Waited t) = Stepping.Waited t
+finish f (Stepping.Shown t x) = Stepping.Shown t x
 finish f (Stepping.Finished d) = Stepping.Finished (f d)
 
 abbrev pub finishing : (Finish → Finish) → Change
@@ -196,6 +197,7 @@ tick-ahead = telling ahead
     ahead (Stepping.Refused r) = Stepping.Refused r
     ahead (Stepping.Moved t) = Stepping.Moved (t + 1)
     ahead (Stepping.Waited t) = Stepping.Waited t
+    ahead (Stepping.Shown t x) = Stepping.Shown t x
     ahead (Stepping.Finished d) = Stepping.Finished d
 
 pub tick-ahead-refuted : Refutation tick-ahead
@@ -272,6 +274,7 @@ equal-dropped = record { fresh = byValue .fresh; start = older; tells = finish r
     older w i (Requests.put k v t draw) =
         byValue .start w i (Requests.put k v (if stampIs (byValue .look w k 0) t then t - 1 else t) draw)
     older w i (Requests.get k) = byValue .start w i (Requests.get k)
+    older w i (Requests.scan first last) = byValue .start w i (Requests.scan first last)
 
     restored : Finish → Finish
     restored d =
