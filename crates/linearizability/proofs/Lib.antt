@@ -27,5 +27,6 @@ pub mod Rested
 pub mod Claimed
 pub mod Linearized
 pub mod Refuted
+pub mod RefutedScans
 pub mod Simulated
 pub mod Touched

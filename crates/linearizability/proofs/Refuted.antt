@@ -83,7 +83,7 @@ abbrev pub tallying : (List ℕ → List ℕ) → Change
 tallying f = record { fresh = byValue .fresh; start = byValue .start; tells = same; look = same; status = same; tally = f }
 
 -- what is told with another answer, version and effect tick
-abbrev told : Finish → Answer → Version → (effect : ℕ) → Finish
+abbrev pub told : Finish → Answer → Version → (effect : ℕ) → Finish
 told d a v e = record {
   kind = d .kind;
   answer = a;
@@ -94,7 +94,7 @@ told d a v e = record {
   finish = d .finish;
 }
 
-abbrev is : Answer → Answer → Bool
+abbrev pub is : Answer → Answer → Bool
 is a b = eqb (answerNumber a) (answerNumber b)
 
 abbrev own : Finish → Version
@@ -104,7 +104,7 @@ own d = record { value = d .value; timestamp = d .timestamp }
 abbrev pub given : (K W : ℕ) → Given
 given K W = record { nodes = replicate (16 * suc K) 77; versions = replicate (3 * suc W) 77; processes = 1; limit = 40 }
 
-abbrev freshOf : Given → Store
+abbrev pub freshOf : Given → Store
 freshOf g = freshStore (openOf (g .nodes) (g .versions) (g .processes) (g .limit))
 
 -- a short list from an accepted opening, after which the claim is false
@@ -122,7 +122,7 @@ pub wrong : {c : Change} → Refutation c → Linearizable (changed c) → ⊥
 wrong r l = r .refutes (l .claim (given (r .K) (r .W)) (r .fresh) (r .opens) (r .K) (r .W)
     (length-replicate (16 * suc (r .K)) 77) (length-replicate (3 * suc (r .W)) 77) (r .actions))
 
-abbrev w₁ : Store
+abbrev pub w₁ : Store
 w₁ = freshOf (given 1 1)
 
 -- ---- "A start that always refuses"
