@@ -299,8 +299,8 @@ uint32_t tray_start_get(uint32_t *state, size_t state_words, const uint32_t *nod
                         uint32_t *tick);
 
 /*
- * Starts a sweep over the trays from `first` to `last`, both included, for `station`. Neither need be there. No step is
- * taken yet.
+ * Starts a sweep over the trays from `first` to `last`, both included, for `station`. Neither need be there; they may be
+ * equal; TRAY_FIRST_TRAY and TRAY_LAST_TRAY are the whole store. No step is taken yet.
  *
  * The steps walk to the first as a get's do and show nothing; from there each shows the next tray of the span with its
  * newest reading, and the one that meets the end, or a tray past the last, answers done. So a span of n trays takes the
