@@ -214,7 +214,7 @@ enum tray_station_word {
     TRAY_STATION_KIND = 0,         /* enum tray_kind */
     TRAY_STATION_TRAY_LOW = 1,     /* what the start was given, from here to the stamp; for a sweep its first tray */
     TRAY_STATION_TRAY_HIGH = 2,
-    TRAY_STATION_LAST_LOW = 3,     /* the last tray of a sweep; 0 for a put and a get */
+    TRAY_STATION_LAST_LOW = 3,     /* the last tray of a sweep; for a put and a get their tray once more */
     TRAY_STATION_LAST_HIGH = 4,
     TRAY_STATION_VALUE = 5,        /* of a put; 0 for a get and a sweep, and so are stamp and top level */
     TRAY_STATION_STAMP = 6,

@@ -187,13 +187,15 @@ static inline Refusal start_refusal(const State *s, size_t state_words, size_t n
                                                                                              : ACCEPTED;
 }
 
-static inline Process *give_call(State *s, uint32_t process, Kind kind, uint64_t key)
+static inline Process *give_call(State *s, uint32_t process, Kind kind, uint64_t key, uint64_t last)
 {
     Process *c = &s->process[process];
     make_idle(c);
     c->kind = kind;
     c->key_low = (uint32_t)key;
     c->key_high = (uint32_t)(key >> 32);
+    c->last_low = (uint32_t)last;
+    c->last_high = (uint32_t)(last >> 32);
     c->start = ++s->events;
     c->level = TOP;
     return c;
@@ -214,7 +216,7 @@ uint32_t tray_start_put(uint32_t *state, size_t state_words, const uint32_t *nod
     Refusal refusal = start_refusal(s, state_words, node_words, reading_words, station, tray, tray);
     *tick = 0;
     if (refusal == ACCEPTED) {
-        Process *c = give_call(s, station, PUT, tray);
+        Process *c = give_call(s, station, PUT, tray, tray);
         c->value = value;
         c->timestamp = stamp;
         c->top = top_of(draw);
@@ -233,7 +235,7 @@ uint32_t tray_start_get(uint32_t *state, size_t state_words, const uint32_t *nod
     Refusal refusal = start_refusal(s, state_words, node_words, reading_words, station, tray, tray);
     *tick = 0;
     if (refusal == ACCEPTED) {
-        *tick = give_call(s, station, GET, tray)->start;
+        *tick = give_call(s, station, GET, tray, tray)->start;
     }
     return refusal;
 }
@@ -248,10 +250,7 @@ uint32_t tray_start_sweep(uint32_t *state, size_t state_words, const uint32_t *n
     Refusal refusal = start_refusal(s, state_words, node_words, reading_words, station, first, last);
     *tick = 0;
     if (refusal == ACCEPTED) {
-        Process *c = give_call(s, station, SCAN, first);
-        c->last_low = (uint32_t)last;
-        c->last_high = (uint32_t)(last >> 32);
-        *tick = c->start;
+        *tick = give_call(s, station, SCAN, first, last)->start;
     }
     return refusal;
 }

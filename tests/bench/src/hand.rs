@@ -88,7 +88,7 @@ enum Answer {
 struct Process {
     kind: Kind,
     key: u64,
-    /// A scan's last key; 0 for other calls.
+    /// A scan's last key; of other calls their key once more.
     last: u64,
     value: u32,
     timestamp: u32,
@@ -208,19 +208,17 @@ impl State {
     fn start(&mut self, nodes: &[u32], versions: &[u32], process: u32, call: &Call) -> Result<u32, Refusal> {
         refuse_unless(self.lawful(nodes, versions), Refusal::Corrupt)?;
         refuse_unless(process < self.processes, Refusal::NoProcess)?;
-        refuse_unless(lawful_key(call.key), Refusal::BadKey)?;
-        if let plan::Kind::Scan { last } = call.kind {
-            refuse_unless(lawful_key(last), Refusal::BadKey)?;
-            refuse_unless(call.key <= last, Refusal::BadSpan)?;
-        }
+        let last = if let plan::Kind::Scan { last } = call.kind { last } else { call.key };
+        refuse_unless(lawful_key(call.key) && lawful_key(last), Refusal::BadKey)?;
+        refuse_unless(call.key <= last, Refusal::BadSpan)?;
         let slot = &mut self.process[process as usize];
         refuse_unless(slot.kind == Kind::Idle, Refusal::Busy)?;
         refuse_unless(self.events < self.limit, Refusal::Spent)?;
         self.events += 1;
-        let fresh = Process { kind: Kind::Get, key: call.key, start: self.events, level: TOP_LEVEL, ..Process::IDLE };
+        let fresh = Process { kind: Kind::Get, key: call.key, last, start: self.events, level: TOP_LEVEL, ..Process::IDLE };
         *slot = match call.kind {
             plan::Kind::Get => fresh,
-            plan::Kind::Scan { last } => Process { kind: Kind::Scan, last, ..fresh },
+            plan::Kind::Scan { .. } => Process { kind: Kind::Scan, ..fresh },
             plan::Kind::Put { value, timestamp, draw } => {
                 let top = draw.trailing_zeros().min(TOP_LEVEL);
                 Process { kind: Kind::Put, value, timestamp, top, ..fresh }
