@@ -25,10 +25,10 @@ fn a_new_key_can_meet_full_readings() {
 #[test]
 fn gets_see_the_newest() {
     let mut map = Map::new(2, 3);
-    assert_eq!(map.apply(Call::Get { key: 7 }), Outcome { answer: Answer::None, value: 0, timestamp: 0 });
+    assert_eq!(map.apply(Call::Get { key: 7 }), Some(Outcome { answer: Answer::None, value: 0, timestamp: 0 }));
     map.put(7, 1, 100);
     map.put(7, 2, 100);
-    assert_eq!(map.apply(Call::Get { key: 7 }), Outcome { answer: Answer::Found, value: 2, timestamp: 100 });
+    assert_eq!(map.apply(Call::Get { key: 7 }), Some(Outcome { answer: Answer::Found, value: 2, timestamp: 100 }));
 }
 
 #[test]
