@@ -80,7 +80,7 @@ fn scan(random: &mut Random, keys: u32) -> Call {
 }
 
 /// A call that its keys refuse: one out of range, at either end of a span, or a first above the last.
-fn unlawful_call(random: &mut Random) -> Call {
+pub fn unlawful_call(random: &mut Random) -> Call {
     let (key, other) = (random.pick(&[FIRST_KEY - 1, LAST_KEY + 1]), random.pick(&EDGE_KEYS));
     match random.below(5) {
         0 => Call::Scan { first: key, last: other },
@@ -126,7 +126,12 @@ pub fn opening(random: &mut Random) -> Opening {
 
 /// A random history of a machine: starts, steps, looks, some refused. `build` makes the machine of a fresh store.
 pub fn history<M: Machine>(seed: u64, build: impl FnOnce(Store) -> M) -> History {
-    recorded(seed, 1_500, build).history()
+    recording(seed, build).history()
+}
+
+/// The same with the machine that it leaves.
+pub fn recording<M: Machine>(seed: u64, build: impl FnOnce(Store) -> M) -> Recorder<M> {
+    recorded(seed, 1_500, build)
 }
 
 /// The store that a short random history leaves; some processes are in the middle of a call.
@@ -145,13 +150,20 @@ fn recorded<M: Machine>(seed: u64, most: u32, build: impl FnOnce(Store) -> M) ->
         if random.once_in(5) {
             favourite = random.below(opening.processes);
         }
-        let process = if random.once_in(3) { random.below(opening.processes) } else { favourite };
+        let other = random.once_in(3) || (lingers(recorder.machine.store(), favourite) && !random.once_in(6));
+        let process = if other { random.below(opening.processes) } else { favourite };
         entry(&mut random, &mut recorder, process, pool);
     }
     if random.once_in(2) {
         finish_all(&mut recorder, opening.processes);
     }
     recorder
+}
+
+/// Is this a scan at the end of its walk? It is often left there, so that keys are made between p and its first.
+fn lingers(store: &Store, process: u32) -> bool {
+    let Process { phase, pred, preds, .. } = store.state.process[process as usize];
+    phase == Phase::Follow && pred == preds[0]
 }
 
 /// One entry: a look, a strange call, or the next move of the process.

@@ -435,7 +435,7 @@ impl Store {
     }
 
     /// Value and timestamp of the version at a place.
-    fn version(&self, place: u32) -> (u32, u32) {
+    pub(crate) fn version(&self, place: u32) -> (u32, u32) {
         (self.version_word(place, VALUE), self.version_word(place, TIMESTAMP))
     }
 }
