@@ -307,8 +307,8 @@ impl Damage {
         let pred = self.random.below(nodes + 1);
         let behind = self.store.next(pred, 0);
         let near = behind != 0 && self.random.once_in(2);
-        let other = call(&mut self.random, nodes + 2).key();
-        let key = if near { self.store.key(behind) } else { other };
+        let (met, other) = (self.store.key(behind), call(&mut self.random, nodes + 2).key());
+        let key = if near { met } else { other };
         let phase = match wild.kind {
             Kind::Get => self.random.pick(&[Phase::Walk, Phase::Read]),
             Kind::Scan => self.random.pick(&[Phase::Walk, Phase::Follow, Phase::Follow]),
@@ -318,7 +318,7 @@ impl Damage {
         let answered = phase == Phase::Release || effect != 0;
         Process {
             key,
-            last: self.random.pick(&[key, other, LAST_KEY, wild.last]),
+            last: self.random.pick(&[met, other, LAST_KEY, wild.last]),
             timestamp: 1_000 + self.random.below(6),
             top: self.random.below(6),
             phase,
