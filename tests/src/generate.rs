@@ -150,8 +150,9 @@ fn recorded<M: Machine>(seed: u64, most: u32, build: impl FnOnce(Store) -> M) ->
         if random.once_in(5) {
             favourite = random.below(opening.processes);
         }
-        let other = random.once_in(3) || (lingers(recorder.machine.store(), favourite) && !random.once_in(6));
-        let process = if other { random.below(opening.processes) } else { favourite };
+        let process = if random.once_in(3) { random.below(opening.processes) } else { favourite };
+        let passed_over = lingers(recorder.machine.store(), process) && !random.once_in(8);
+        let process = if passed_over { random.below(opening.processes) } else { process };
         entry(&mut random, &mut recorder, process, pool);
     }
     if random.once_in(2) {

@@ -148,7 +148,7 @@ pub fn random_words(seed: u64) -> Vec<Case> {
         let operation = operation(&mut random, &words, None);
         Case { words, operation, wide: None }
     };
-    (0..20).map(case).collect()
+    (0..30).map(case).collect()
 }
 
 fn live(seed: u64) -> (Words, Random) {

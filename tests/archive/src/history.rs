@@ -68,8 +68,9 @@ impl<'r, 'a> Story<'r, 'a> {
 
     /// One call: mostly the next move of a process, the favourite or another.
     fn turn(&mut self, favourite: u32) -> Result<u32, Failure> {
-        let other = self.random.once_in(3) || (self.words.lingers(favourite) && !self.random.once_in(6));
-        let process = if other { self.random.below(self.processes) } else { favourite };
+        let process = if self.random.once_in(3) { self.random.below(self.processes) } else { favourite };
+        let passed_over = self.words.lingers(process) && !self.random.once_in(8);
+        let process = if passed_over { self.random.below(self.processes) } else { process };
         let operation = match self.random.below(40) {
             0..=2 => Operation::Look { key: call(&mut self.random, self.pool).key(), back: self.random.below(4) },
             3 => cases::operation(&mut self.random, &self.words, None),

@@ -20,11 +20,13 @@ pub const LEVEL: usize = 10;
 pub const PRED: usize = 11;
 pub const EFFECT: usize = 14;
 const PRED_OF_LEVEL_0: usize = 15;
-// The halves of a key, low and high, in a process (its call's own and a scan's last) and in a node; the links of a node.
+// The halves of a key, low and high, in a process (its call's own and a scan's last) and in a node; a node's links and
+// the place of its newest version.
 pub const KEY_OF_PROCESS: [usize; 2] = [1, 2];
 pub const LAST_OF_PROCESS: [usize; 2] = [3, 4];
 pub const KEY_OF_NODE: [usize; 2] = [0, 3];
 const NEXT: usize = 4;
+pub const NEWEST: usize = 1;
 
 #[derive(Clone, Copy, Debug, PartialEq, Eq)]
 pub enum Part {
@@ -93,6 +95,13 @@ impl Words {
     /// A node's link at a level up to 5, 0 where there is none.
     pub fn next(&self, node: u32, level: u32) -> u32 {
         self.node_word(node, NEXT + level.min(5) as usize)
+    }
+
+    /// Sets the place of a node's newest version, if the table has such a node.
+    pub fn set_newest(&mut self, node: u32, place: u32) {
+        if let Some(word) = self.part_mut(Part::Nodes).get_mut(node as usize * 16 + NEWEST) {
+            *word = place;
+        }
     }
 
     pub fn is_running(&self, process: u32) -> bool {

@@ -110,7 +110,8 @@ fn alter_key(random: &mut Random, words: &mut Words) {
     words.part_mut(Part::Nodes)[node as usize * 16 + half] = to;
 }
 
-/// Gives a process a scan that follows, from a node in use and over a span of keys of nodes or between them, mostly in order.
+/// Gives a process a scan that follows, from a node in use and over a span of keys of nodes or between them, mostly in order;
+/// at times the newest reading of the node ahead is lost.
 pub fn let_follow(random: &mut Random, words: &mut Words, process: u32) {
     let nodes = words.state_word(7).saturating_add(1);
     let mut key = || words.node_key(random.below(nodes)).wrapping_add(u64::from(random.below(2)));
@@ -119,6 +120,10 @@ pub fn let_follow(random: &mut Random, words: &mut Words, process: u32) {
         span.sort_unstable();
     }
     let pred = random.below(nodes);
+    if random.once_in(4) {
+        let lost = random.pick(&[0, words.state_word(8).saturating_add(1)]);
+        words.set_newest(words.next(pred, 0), lost);
+    }
     let level = if random.once_in(2) { 0 } else { random.below(6) };
     let call = &mut words.part_mut(Part::State)[words_of(process as usize)];
     (call[KIND], call[PHASE], call[EFFECT]) = (Kind::Scan as u32, Phase::Follow as u32, 0);

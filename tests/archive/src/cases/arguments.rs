@@ -3,7 +3,7 @@
 use crate::words::*;
 use store_tests::damage::Operation;
 use store_tests::generate::{near, EDGE_KEYS};
-use store_tests::model::{Call, MAX_LIMIT};
+use store_tests::model::{Call, FIRST_KEY, LAST_KEY, MAX_LIMIT};
 use store_tests::random::Random;
 
 const PROCESSES: [u32; 12] = [0, 1, 6, 7, 8, 9, 255, 256, 1 << 16, 1 << 29, 1 << 31, u32::MAX];
@@ -111,11 +111,17 @@ fn key(random: &mut Random, words: &Words) -> u64 {
     }
 }
 
-/// Two such keys, mostly the lesser one first.
+/// Two such keys, mostly the lesser one first; at times one of them is out of range.
 fn span(random: &mut Random, words: &Words) -> Call {
     let (one, other) = (key(random, words), key(random, words));
-    let risen = !random.once_in(4);
-    let (first, last) = if risen { (one.min(other), one.max(other)) } else { (one, other) };
+    let (low, high) = (one.min(other), one.max(other));
+    let outside = random.pick(&[FIRST_KEY - 1, LAST_KEY + 1]);
+    let (first, last) = match random.below(16) {
+        0 => (outside, other),
+        1 => (one, outside),
+        2..=4 => (one, other),
+        _ => (low, high),
+    };
     Call::Scan { first, last }
 }
 

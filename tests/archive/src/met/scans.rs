@@ -2,7 +2,7 @@
 
 use super::{DONE, ON, SHOWN};
 use crate::expected::Outcome;
-use crate::words::{Words, KEY_OF_PROCESS, LAST_OF_PROCESS, LEVEL, PRED};
+use crate::words::{Words, KEY_OF_PROCESS, LAST_OF_PROCESS, LEVEL, NEWEST, PRED};
 use store_tests::damage::Operation;
 
 /// What a step that follows meets and need not look at.
@@ -19,14 +19,14 @@ impl Before {
         let [level, pred] = [LEVEL, PRED].map(|word| words.process_word(process, word));
         let [first, last] = [KEY_OF_PROCESS, LAST_OF_PROCESS].map(|halves| words.process_key(process, halves));
         let next = words.next(pred, 0);
-        let newest = words.node_word(next, 1);
+        let newest = words.node_word(next, NEWEST);
         let lost_reading = next != 0 && (newest == 0 || newest > words.state_word(8));
         Before { lost_reading, above_level_0: level > 0, first_above_last: first > last }
     }
 }
 
 /// Where sweeps have to run, whatever other plans do.
-const PLANS: [&str; 3] = ["histories", "altered histories", "fills"];
+const PLANS: [&str; 2] = ["histories", "fills"];
 const DID: [(u32, &str); 3] = [(ON, "passed"), (DONE, "swept"), (SHOWN, "shown")];
 const LOST_READING: &str = "a reading lost";
 const ABOVE_LEVEL_0: &str = "level above 0";
