@@ -81,6 +81,15 @@ fn scans_in_three_processes() {
     search.has_met_all_but(&[]);
 }
 
+/// Two scans, of all and of the key held, and two puts, of that key and of one below it. No key is past a last.
+#[test]
+fn two_scans_and_two_puts() {
+    let mut search = Search::default();
+    let scripts: [&[Call]; 4] = [&[scan(3, 9)], &[scan(5, 5)], &[put(4, 2, 1)], &[put(5, 3, 1)]];
+    search.go(&scope(2, 4, &[put(5, 2, 2)], &scripts));
+    search.has_met_all_but(&[Meeting::SweptPastLast]);
+}
+
 /// Nothing is held at the start; all of it is made while the scan runs, or does not fit.
 #[test]
 fn scans_of_an_empty_store() {
