@@ -48,8 +48,9 @@ impl Operation {
 
 impl Reply {
     /// The reply as nine words, unused ones 0. Word 0 is the refusal number, 0 if not refused. Then: started: tick;
-    /// step: 0 on, 1 wait, 2 done, 3 shown, and the tick, and for done kind, answer, value, timestamp, start, effect, for
-    /// shown the key's low and high half, value, timestamp; look: value, timestamp; inspection: 0 sound or 1 fault, level, node; status: kind (0 idle), start, effect.
+    /// step: 0 on, 1 wait, 2 done, 3 shown, and the tick, and for done kind, answer, value, timestamp, start, effect,
+    /// for shown the key's low and high half, value, timestamp; look: value, timestamp; inspection: 0 sound or 1 fault,
+    /// level, node; status: kind (0 idle), start, effect.
     pub fn words(self) -> [u32; 9] {
         let mut words = [0; 9];
         let mut fill = |from: &[u32]| words[1..=from.len()].copy_from_slice(from);

@@ -90,7 +90,8 @@ pub fn unlawful_call(random: &mut Random) -> Call {
     }
 }
 
-/// A random put or get, as a sheet can start it, on one of `keys` keys; timestamps lie near each other so that equal and older ones are common.
+/// A random put or get, as a sheet can start it, on one of `keys` keys; timestamps lie near each other so that equal and
+/// older ones are common.
 pub fn call(random: &mut Random, keys: u32) -> Call {
     let key = key_of(random.below(keys));
     if random.once_in(4) {

@@ -66,8 +66,8 @@ impl Map {
         self.lists.keys().copied().filter(|key| (first..=last).contains(key)).collect()
     }
 
-    /// Feeds a call. A put's outcome carries its own value and timestamp, none carries 0 and 0. A scan takes no effect: the
-    /// ledger has no outcome for it.
+    /// Feeds a call. A put's outcome carries its own value and timestamp, none carries 0 and 0. A scan takes no effect:
+    /// the ledger has no outcome for it.
     pub fn apply(&mut self, call: Call) -> Option<Outcome> {
         Some(match call {
             Call::Put { key, value, timestamp, .. } => {

@@ -72,8 +72,8 @@ fn explorer_accepts_the_model_in_the_same_scopes() {
 }
 
 /// The list that the explorer found wrong is wrong for the literal checker too. (A late effect need not be: there the
-/// watch is stricter, since it has seen the status. Nor a start that should, or should not, be refused: the explorer tries
-/// such starts beside the list.)
+/// watch is stricter, since it has seen the status. Nor a start that should, or should not, be refused: the explorer
+/// tries such starts beside the list.)
 #[test]
 fn literal_checker_objects_to_the_lists_found() {
     let beside = [Slip::LateEffects, Slip::OldBound, Slip::SpanAccepted];
@@ -153,8 +153,8 @@ fn comparison_step_by_step_shows_every_slip() {
     }
 }
 
-/// The random sheets of one round print something else on each broken store, but for the tally, which no sheet prints, and
-/// for scans, which none starts.
+/// The random sheets of one round print something else on each broken store, but for the tally, which no sheet prints,
+/// and for scans, which none starts.
 #[test]
 fn random_sheets_show_every_slip() {
     for slip in Slip::of_sheets() {

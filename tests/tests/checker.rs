@@ -138,8 +138,8 @@ fn refusals() {
     }
 }
 
-/// Process 0 puts 5, 7 and 8; process 1 scans from 5 to 8 and is done, and while it runs 7 is put again ahead of it and 6
-/// behind it; process 2 scans from 6 on and has shown 6.
+/// Process 0 puts 5, 7 and 8; process 1 scans from 5 to 8 and is done, and while it runs 7 is put again ahead of it and
+/// 6 behind it; process 2 scans from 6 on and has shown 6.
 fn scan_history() -> History {
     let opening = Opening { keys: 4, versions: 6, processes: 3, limit: 400 };
     let mut recorder = Recorder::new(opening.fresh(), opening);

@@ -142,7 +142,7 @@ fn steps_of_a_scan() {
     assert_eq!([taken(5, 5), taken(5, 6), taken(5, 9)], [walk + 1, walk + 2, walk + 3]);
 }
 
-/// The whole process after each step of a scan from 5 to 8 in a store with 3 (top 0), 6 (top 0), 8 (top 2) and 9 (top 0).
+/// The whole process after each step of a scan from 5 to 8, in a store with 3, 6, 9 (all top 0) and 8 (top 2).
 #[test]
 fn fields_of_a_scan_step_by_step() {
     let mut store = holding(&[8, 3, 9, 6]);

@@ -156,8 +156,8 @@ const LARGEST: u64 = 100;
 /// Sweeps beside the puts of a fill; each may go over all of it.
 const SWEEPS: u32 = 6;
 
-/// A store filled with trays, then with readings, by all its processes at once, beside some sweeps, and some puts more that
-/// find it full; then a sweep of all, and single calls on the full store with some words altered.
+/// A store filled with trays, then with readings, by all its processes at once, beside some sweeps, and some puts more
+/// that find it full; then a sweep of all, and single calls on the full store with some words altered.
 pub fn fill(run: &mut Run, seed: u64) -> Result<(), Failure> {
     let mut random = Random::new(seed ^ 0xF111_0000);
     let (keys, versions, processes) = match seed % LARGEST {
@@ -209,8 +209,8 @@ impl Row {
         }
     }
 
-    /// The put of this number: first new keys, two too many, then further versions of three of them. Timestamps rise, but
-    /// some are too old.
+    /// The put of this number: first new keys, two too many, then further versions of three of them. Timestamps rise,
+    /// but some are too old.
     fn put(&self, random: &mut Random, number: u32) -> Call {
         let place = if number < self.fresh { number + 1 } else { random.within(1, 3) };
         let timestamp = 1_000 + number - if random.once_in(16) { 20 } else { 0 };

@@ -1,5 +1,5 @@
-//! A number without meaning in the words of a station: which calls it refuses, one by one and not by the model; and that the
-//! greatest with a meaning refuses none.
+//! A number without meaning in the words of a station: which calls it refuses, one by one and not by the model; and that
+//! the greatest with a meaning refuses none.
 
 use crate::fence::Side;
 use crate::interface::Interface;
@@ -10,8 +10,9 @@ use store_tests::ledger::Opening;
 use store_tests::model::Call;
 
 const STATIONS: u32 = 3;
-/// The numbers returned on a fresh store by two starts, a step and a standing of station 0, a look and an inspection: where
-/// all is known, where station 0 has the number, another below the count, one above it; and where station 0 has a call.
+/// The numbers returned on a fresh store by two starts, a step and a standing of station 0, a look and an inspection:
+/// where all is known, where station 0 has the number, another below the count, one above it; and where station 0 has a
+/// call.
 const KNOWN: [u32; 6] = [0, 0, 8, 0, 12, 0];
 const OWN: [u32; 6] = [10, 10, 10, 10, 12, 10];
 const OTHER: [u32; 6] = [0, 0, 8, 0, 12, 10];

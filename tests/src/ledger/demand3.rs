@@ -47,8 +47,8 @@ pub struct History {
 }
 
 /// What an objection is about. `Refusal` is strictly demand 2's: a refusal other than the one due. Of scans: `Shown`, a
-/// version that was not its key's newest, or one shown by another call; `Span`, a key outside the span; `Rise`, a key not
-/// above the one before; `Once`, a key not shown as often as it must be.
+/// version that was not its key's newest, or one shown by another call; `Span`, a key outside the span; `Rise`, a key
+/// not above the one before; `Once`, a key not shown as often as it must be.
 #[derive(Clone, Copy, Debug, PartialEq, Eq)]
 pub enum Aspect {
     Tick,

@@ -1,5 +1,5 @@
-//! One step of a process: document 01, "Steps of a station", and document 02, the sweep. Each phase is one function; it makes all its tests
-//! (refusal 11) before its first write.
+//! One step of a process: document 01, "Steps of a station", and document 02, the sweep. Each phase is one function; it
+//! makes all its tests (refusal 11) before its first write.
 
 use super::*;
 
@@ -27,8 +27,7 @@ impl Step {
     }
 }
 
-/// A finished call. Value and timestamp are a put's own, those found by a get, or 0 and 0. A scan's effect is 0: it takes
-/// none.
+/// A finished call. Value and timestamp are a put's own, those found by a get, or 0 and 0. A scan takes no effect: 0.
 #[derive(Clone, Copy, Debug, PartialEq, Eq, Hash)]
 pub struct Done {
     pub kind: Kind,

@@ -2,8 +2,8 @@
 //!
 //! Words 0 to 7: opened (0 or 1), processes, limit, events, node words, version words, nodes, versions. Then 21 words
 //! for each of the 8 processes: kind, low and high half of the key and of the last key, value, timestamp, top, start,
-//! phase, level, pred, made, answer, effect and the six remembered nodes. Kind, phase and answer are the numbers of their enums, in the
-//! order of declaration.
+//! phase, level, pred, made, answer, effect and the six remembered nodes. Kind, phase and answer are the numbers of
+//! their enums, in the order of declaration.
 
 use super::*;
 

@@ -44,7 +44,7 @@ fn a_scan_and_every_other_call() {
     search.has_met_all_but(&[Meeting::WaitBeside]);
 }
 
-/// Puts in a row: keys made and versions added behind the scan, at it and ahead of it, while it runs and before it starts.
+/// Puts in a row: keys made and versions added behind the scan, at it and ahead of it, while it runs and before.
 #[test]
 fn a_scan_and_calls_in_a_row() {
     let first = [put(4, 5, 1), put(8, 5, 2)];

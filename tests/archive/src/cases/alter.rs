@@ -110,8 +110,8 @@ fn alter_key(random: &mut Random, words: &mut Words) {
     words.part_mut(Part::Nodes)[node as usize * 16 + half] = to;
 }
 
-/// Gives a process a scan that follows, from a node in use and over a span of keys of nodes or between them, mostly in order;
-/// at times the newest reading of the node ahead is lost.
+/// Gives a process a scan that follows, from a node in use and over a span of keys of nodes or between them, mostly in
+/// order; at times the newest reading of the node ahead is lost.
 pub fn let_follow(random: &mut Random, words: &mut Words, process: u32) {
     let nodes = words.state_word(7).saturating_add(1);
     let mut key = || words.node_key(random.below(nodes)).wrapping_add(u64::from(random.below(2)));

@@ -70,8 +70,8 @@ fn point_kinds(operation: Operation, number: u32, key: u64) -> Vec<String> {
     }
 }
 
-/// The start of a sweep: which end is refused, is the first or the last of all, or is long; and whether high halves decide
-/// that the span is lawful, or that it is not.
+/// The start of a sweep: which end is refused, is the first or the last of all, or is long; and whether high halves
+/// decide that the span is lawful, or that it is not.
 fn span_kinds(number: u32, first: u64, last: u64) -> Vec<String> {
     let ends = [("first", first), ("last", last)];
     let wrong = ends.into_iter().find(|&(_, key)| !lawful_key(key));
