@@ -157,24 +157,21 @@ impl Call {
         }
     }
 
-    /// A scan's last key; 0 for another call.
+    /// A scan's last key; another call has one key, its first and its last.
     pub fn last(self) -> u64 {
         match self {
+            Call::Put { key, .. } | Call::Get { key } => key,
             Call::Scan { last, .. } => last,
-            _ => 0,
         }
     }
 
     /// What is wrong with its keys: refusal 6 reads both ends of a span, and 17 comes behind it.
     pub fn wrong_keys(self) -> Option<Refusal> {
-        let (lawful, rising) = match self {
-            Call::Put { key, .. } | Call::Get { key } => (lawful_key(key), true),
-            Call::Scan { first, last } => (lawful_key(first) && lawful_key(last), first <= last),
-        };
-        match (lawful, rising) {
-            (false, _) => Some(Refusal::KeyOutOfRange),
-            (true, false) => Some(Refusal::BadSpan),
-            (true, true) => None,
+        let (first, last) = (self.key(), self.last());
+        if !lawful_key(first) || !lawful_key(last) {
+            Some(Refusal::KeyOutOfRange)
+        } else {
+            (first > last).then_some(Refusal::BadSpan)
         }
     }
 
@@ -191,7 +188,7 @@ impl Call {
 #[derive(Clone, Copy, Debug, PartialEq, Eq, Hash)]
 pub struct Process {
     pub kind: Kind,
-    /// The key that the call walks to, and a scan's last.
+    /// The key that the call walks to, and its last.
     pub key: u64,
     pub last: u64,
     pub value: u32,

@@ -155,7 +155,7 @@ fn fields_of_a_put_step_by_step() {
     let events = finish(&mut store, 0).1.finish;
     store.start_put(1, 9, 250, 100, 2).unwrap();
     let (start, kind) = (events + 1, Kind::Put);
-    let begun = Process { kind, key: 9, value: 250, timestamp: 100, top: 1, start, level: 5, ..Process::IDLE };
+    let begun = Process { kind, key: 9, last: 9, value: 250, timestamp: 100, top: 1, start, level: 5, ..Process::IDLE };
     assert_eq!(store.state.process[1], begun);
     let (effect, made, answer) = (start + 11, 2, Answer::New);
     let before = |phase, level, pred, preds| Process { phase, level, pred, preds, ..begun };
