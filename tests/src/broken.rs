@@ -1,5 +1,7 @@
 //! Stores broken on purpose, each with one slip: the proof that the checkers can object.
 
+mod scans;
+
 use crate::machine::Machine;
 use crate::model::*;
 
@@ -35,33 +37,103 @@ pub enum Slip {
     InspectByLow,
     /// A start refuses 6 from 4,294,967,295 on, the bound of 32 bits.
     OldBound,
+    /// A scan follows the links of p's own top level.
+    ScanByTop,
+    /// A scan's walk takes the node of its first key as p, as a get's does.
+    ScanFindsFirst,
+    /// A scan follows to the end, whatever its last key.
+    ScanPastLast,
+    /// A scan shows keys below its first.
+    ScanBelowFirst,
+    /// A scan finishes at a key below its first.
+    ScanEndsBelow,
+    /// A scan shows the version before the newest, where there is one.
+    ScanOlder,
+    /// A scan shows the versions that were newest when its walk ended.
+    ScanOfWalk,
+    /// A scan that has come to its end begins once more.
+    ScanAgain,
+    /// A finished scan is counted as none.
+    ScanCounted,
+    /// A scan's finish is given as its effect tick.
+    ScanEffect,
+    /// A scan finishes with the value and timestamp that it showed last.
+    ScanKeeps,
+    /// A start accepts a span of which the first is above the last.
+    SpanAccepted,
+    /// A put that is too old ends as swept, and is not counted.
+    PutSwept,
+    /// A get shows what it is about to read.
+    GetShows,
+    /// A scan does not move p at a key below its first, and never ends. Demand 3 cannot see it.
+    ScanStays,
+    /// A scan passes the keys made since its walk. Demand 3 allows it.
+    ScanOfOldKeys,
+    /// The last step of a scan's walk shows a key. Demand 3 allows it.
+    ScanShowsInWalk,
     /// A get ends at the level where it meets its key. Demand 3 cannot see it.
     GetEndsHigh,
     /// A free lock is waited for at odd ticks. Demand 3 cannot see it.
     WaitAtFree,
 }
 
+/// Those that break demand 3, and those that only a comparison step by step shows.
+const SEEN: [Slip; 16] = [
+    Slip::StaleLink,
+    Slip::OwnNodeLocked,
+    Slip::EqualDropped,
+    Slip::TopFirst,
+    Slip::FullEarly,
+    Slip::GetNone,
+    Slip::InventedTicks,
+    Slip::LateEffects,
+    Slip::InventedTally,
+    Slip::HighIgnored,
+    Slip::LowFirst,
+    Slip::HalvesSwapped,
+    Slip::LookByLow,
+    Slip::InspectByLow,
+    Slip::OldBound,
+    Slip::PutSwept,
+];
+const UNSEEN: [Slip; 2] = [Slip::GetEndsHigh, Slip::WaitAtFree];
+/// The same of what no sheet comes to: it has no command for a scan and no line for what is shown.
+const SEEN_OF_SCANS: [Slip; 13] = [
+    Slip::ScanByTop,
+    Slip::ScanFindsFirst,
+    Slip::ScanPastLast,
+    Slip::ScanBelowFirst,
+    Slip::ScanEndsBelow,
+    Slip::ScanOlder,
+    Slip::ScanOfWalk,
+    Slip::ScanAgain,
+    Slip::ScanCounted,
+    Slip::ScanEffect,
+    Slip::ScanKeeps,
+    Slip::SpanAccepted,
+    Slip::GetShows,
+];
+const UNSEEN_OF_SCANS: [Slip; 3] = [Slip::ScanStays, Slip::ScanOfOldKeys, Slip::ScanShowsInWalk];
+
 impl Slip {
     /// Those that break demand 3.
-    pub const SEEN: [Slip; 15] = [
-        Slip::StaleLink,
-        Slip::OwnNodeLocked,
-        Slip::EqualDropped,
-        Slip::TopFirst,
-        Slip::FullEarly,
-        Slip::GetNone,
-        Slip::InventedTicks,
-        Slip::LateEffects,
-        Slip::InventedTally,
-        Slip::HighIgnored,
-        Slip::LowFirst,
-        Slip::HalvesSwapped,
-        Slip::LookByLow,
-        Slip::InspectByLow,
-        Slip::OldBound,
-    ];
+    pub fn seen() -> impl Iterator<Item = Slip> {
+        SEEN.into_iter().chain(SEEN_OF_SCANS)
+    }
+
     /// Those that only a comparison step by step shows.
-    pub const UNSEEN: [Slip; 2] = [Slip::GetEndsHigh, Slip::WaitAtFree];
+    pub fn unseen() -> impl Iterator<Item = Slip> {
+        UNSEEN.into_iter().chain(UNSEEN_OF_SCANS)
+    }
+
+    pub fn all() -> impl Iterator<Item = Slip> {
+        Slip::seen().chain(Slip::unseen())
+    }
+
+    /// Those that a sheet comes to.
+    pub fn of_sheets() -> impl Iterator<Item = Slip> {
+        SEEN.into_iter().chain(UNSEEN)
+    }
 }
 
 #[derive(Clone, Hash)]
@@ -84,6 +156,9 @@ impl Machine for Broken {
         if self.slip == Slip::OldBound && beyond {
             return Err(Refusal::KeyOutOfRange);
         }
+        if self.slip == Slip::SpanAccepted {
+            return self.span_accepted(process, call);
+        }
         self.store.start(process, call)
     }
 
@@ -103,6 +178,7 @@ impl Machine for Broken {
             Slip::HalvesSwapped => self.halves_swapped(process, &call),
             Slip::InventedTicks | Slip::LateEffects | Slip::InventedTally => None,
             Slip::LookByLow | Slip::InspectByLow | Slip::OldBound => None,
+            _ => self.scan_slip(process, &call),
         };
         match slipped {
             Some(step) => Ok(step),
@@ -170,9 +246,9 @@ impl Broken {
     /// A step that sees its own key and those of the nodes like this. It leaves the right ones.
     fn step_seeing(&mut self, process: u32, seen: fn(u64) -> u64) -> Option<Step> {
         let index = process as usize;
-        let own = self.store.state.process[index].key;
+        let Process { key: own, last, .. } = self.store.state.process[index];
         let mut store = self.seeing(seen);
-        store.state.process[index].key = seen(own);
+        (store.state.process[index].key, store.state.process[index].last) = (seen(own), seen(last));
         let step = store.step(process).ok()?;
         (0..=self.store.state.nodes).for_each(|node| set_key(&mut store, node, self.store.key(node)));
         if store.state.nodes > self.store.state.nodes {
@@ -180,10 +256,16 @@ impl Broken {
             set_key(&mut store, made, own);
         }
         if store.state.process[index].kind != Kind::Idle {
-            store.state.process[index].key = own;
+            (store.state.process[index].key, store.state.process[index].last) = (own, last);
         }
         self.store = store;
-        Some(step)
+        let pred = self.store.state.process[index].pred;
+        Some(match step {
+            Step::Shown { tick, value, timestamp, .. } => {
+                Step::Shown { tick, key: self.store.key(pred), value, timestamp }
+            }
+            step => step,
+        })
     }
 
     fn halves_swapped(&mut self, process: u32, call: &Process) -> Option<Step> {
@@ -203,6 +285,7 @@ impl Broken {
                 self.store.tally[Answer::Found as usize] += 1;
                 step
             }
+            (_, Step::Done(done)) => Step::Done(self.invented_end(done)),
             _ => step,
         }
     }

@@ -4,7 +4,7 @@
 //! answer in words; with `State::to_words`, the two tables and the tally this is all that another implementation has
 //! to agree with.
 
-use crate::generate::{call, live_store, near, EDGE_KEYS};
+use crate::generate::{any_call, call, live_store, near, EDGE_KEYS};
 use crate::model::*;
 use crate::random::Random;
 
@@ -27,7 +27,7 @@ pub enum Reply {
     Stepped(Step),
     Looked(u32, u32),
     Inspected(Verdict),
-    Shown(Status),
+    Status(Status),
 }
 
 impl Operation {
@@ -40,7 +40,7 @@ impl Operation {
                 store.look(key, back).map(|(value, timestamp)| Reply::Looked(value, timestamp))
             }
             Operation::Inspect => store.inspect().map(Reply::Inspected),
-            Operation::Status { process } => store.status(process).map(Reply::Shown),
+            Operation::Status { process } => store.status(process).map(Reply::Status),
         };
         reply.unwrap_or_else(Reply::Refused)
     }
@@ -48,23 +48,27 @@ impl Operation {
 
 impl Reply {
     /// The reply as nine words, unused ones 0. Word 0 is the refusal number, 0 if not refused. Then: started: tick;
-    /// step: 0 on, 1 wait, 2 done, and the tick, and for done kind, answer, value, timestamp, start, effect; look: value,
-    /// timestamp; inspection: 0 sound or 1 fault, level, node; status: kind (0 idle), start, effect.
+    /// step: 0 on, 1 wait, 2 done, 3 shown, and the tick, and for done kind, answer, value, timestamp, start, effect,
+    /// for shown the key's low and high half, value, timestamp; look: value, timestamp; inspection: 0 sound or 1 fault,
+    /// level, node; status: kind (0 idle), start, effect.
     pub fn words(self) -> [u32; 9] {
         let mut words = [0; 9];
         let mut fill = |from: &[u32]| words[1..=from.len()].copy_from_slice(from);
         match self {
             Reply::Refused(refusal) => words[0] = refusal.number(),
-            Reply::Opened | Reply::Inspected(Verdict::Sound) | Reply::Shown(Status::Idle) => {}
+            Reply::Opened | Reply::Inspected(Verdict::Sound) | Reply::Status(Status::Idle) => {}
             Reply::Started(tick) => fill(&[tick]),
             Reply::Stepped(Step::On(tick)) => fill(&[0, tick]),
             Reply::Stepped(Step::Wait(tick)) => fill(&[1, tick]),
             Reply::Stepped(Step::Done(d)) => {
                 fill(&[2, d.finish, d.kind as u32, d.answer as u32, d.value, d.timestamp, d.start, d.effect])
             }
+            Reply::Stepped(Step::Shown { tick, key, value, timestamp }) => {
+                fill(&[3, tick, low_half(key), high_half(key), value, timestamp])
+            }
             Reply::Looked(value, timestamp) => fill(&[value, timestamp]),
             Reply::Inspected(Verdict::Fault { level, node }) => fill(&[1, level, node]),
-            Reply::Shown(Status::Running { kind, start, effect }) => fill(&[kind as u32, start, effect]),
+            Reply::Status(Status::Running { kind, start, effect }) => fill(&[kind as u32, start, effect]),
         }
         words
     }
@@ -117,7 +121,7 @@ impl Damage {
     /// Half of the time gives process 0 a call, if it has none, and steps it a little.
     fn liven(&mut self) {
         if self.random.once_in(2) {
-            let call = call(&mut self.random, self.store.state.nodes + 2);
+            let call = any_call(&mut self.random, self.store.state.nodes + 2);
             let _ = self.store.start(0, call);
             for _ in 0..self.random.below(25) {
                 let _ = self.store.step(0);
@@ -158,8 +162,8 @@ impl Damage {
         let key = self.key();
         let index = self.random.below(PROCESSES as u32) as usize;
         let process = &mut self.store.state.process[index];
-        match self.random.below(13) {
-            0 => process.kind = self.random.pick(&[Kind::Idle, Kind::Put, Kind::Get]),
+        match self.random.below(14) {
+            0 => process.kind = self.random.pick(&Kind::ALL),
             1 => process.key = key,
             2 => process.timestamp = number,
             3 => process.top = number,
@@ -171,6 +175,7 @@ impl Damage {
             9 => process.answer = self.random.pick(&Answer::ALL),
             10 => process.effect = number,
             11 => process.value = number,
+            12 => process.last = key,
             _ => process.preds[self.random.below(LEVELS as u32) as usize] = number,
         }
     }
@@ -267,11 +272,12 @@ impl Damage {
     }
 
     fn invent_process(&mut self) -> Process {
-        let kind = self.random.pick(&[Kind::Idle, Kind::Put, Kind::Put, Kind::Get]);
+        let kind = self.random.pick(&[Kind::Idle, Kind::Put, Kind::Put, Kind::Get, Kind::Scan]);
         let calm = self.random.once_in(2);
         Process {
             kind,
             key: self.any_key(),
+            last: self.any_key(),
             value: self.number(),
             timestamp: self.number(),
             top: self.random.below(if calm { 6 } else { 8 }),
@@ -302,15 +308,21 @@ impl Damage {
         let pred = self.random.below(nodes + 1);
         let behind = self.store.next(pred, 0);
         let near = behind != 0 && self.random.once_in(2);
-        let key = if near { self.store.key(behind) } else { call(&mut self.random, nodes + 2).key() };
-        let get_phase = self.random.pick(&[Phase::Walk, Phase::Read]);
+        let (met, other) = (self.store.key(behind), call(&mut self.random, nodes + 2).key());
+        let key = if near { met } else { other };
+        let phase = match wild.kind {
+            Kind::Get => self.random.pick(&[Phase::Walk, Phase::Read]),
+            Kind::Scan => self.random.pick(&[Phase::Walk, Phase::Follow, Phase::Follow]),
+            _ => wild.phase,
+        };
         let effect = if wild.kind == Kind::Put && self.random.once_in(4) { self.random.word() } else { 0 };
-        let answered = wild.phase == Phase::Release || effect != 0;
+        let answered = phase == Phase::Release || effect != 0;
         Process {
             key,
+            last: self.random.pick(&[met, other, LAST_KEY, wild.last]),
             timestamp: 1_000 + self.random.below(6),
             top: self.random.below(6),
-            phase: if wild.kind == Kind::Get { get_phase } else { wild.phase },
+            phase,
             level: if near { 0 } else { self.random.below(6) },
             pred,
             made: self.random.below(nodes + 1),
@@ -373,9 +385,10 @@ impl Damage {
             0 => Operation::Open { processes: self.number(), limit: self.number() },
             1 => Operation::Open { processes: self.random.within(1, 8), limit: self.random.word() },
             2..=3 => {
-                let call = match call(&mut self.random, 6) {
+                let call = match any_call(&mut self.random, 6) {
                     Call::Get { .. } => Call::Get { key: self.key() },
                     Call::Put { value, timestamp, draw, .. } => Call::Put { key: self.key(), value, timestamp, draw },
+                    Call::Scan { .. } => Call::Scan { first: self.key(), last: self.key() },
                 };
                 let process = if self.random.once_in(2) { self.process() } else { self.random.below(PROCESSES as u32) };
                 Operation::Start { process, call }

@@ -7,7 +7,8 @@
 
 use crate::ledger::{check, History, Opening, Watch};
 use crate::machine::{Machine, Recorder};
-use crate::model::{Call, Refusal, Store, FIRST_KEY, LAST_KEY};
+use crate::meetings::{since, Meetings, Move, Since};
+use crate::model::{Call, Kind, Refusal, Step, Store, FIRST_KEY, LAST_KEY};
 use std::collections::hash_map::DefaultHasher;
 use std::collections::HashSet;
 use std::fmt::Debug;
@@ -39,6 +40,8 @@ pub struct Report {
     pub ends: u64,
     /// Events at the latest point gone through.
     pub latest: u32,
+    /// What scans met on all ways gone.
+    pub meetings: Meetings,
 }
 
 /// An objection and the way to it: the processes in the order of their moves.
@@ -54,6 +57,8 @@ struct Point<M> {
     watch: Watch,
     /// How many calls of its script each process has started.
     started: Vec<usize>,
+    /// For each process that has a scan, what was in use at its start.
+    since: Vec<Option<Since>>,
 }
 
 struct Explorer<'a, M> {
@@ -68,8 +73,9 @@ struct Explorer<'a, M> {
 
 /// Goes through all interleavings; `fresh` is opened with the scope's numbers.
 pub fn explore<M: Machine>(fresh: M, scope: &Scope) -> Result<Report, Found> {
-    let mut point =
-        Point { machine: fresh.clone(), watch: Watch::new(&scope.opening), started: vec![0; scope.scripts.len()] };
+    let processes = scope.scripts.len();
+    let (started, since) = (vec![0; processes], vec![None; processes]);
+    let mut point = Point { machine: fresh.clone(), watch: Watch::new(&scope.opening), started, since };
     let (keys, seen, schedule) = (scope.keys(), HashSet::new(), Vec::new());
     let mut explorer = Explorer { scope, fresh, keys, seen, schedule, report: Report::default() };
     let result = explorer.prepare(&mut point).and_then(|()| explorer.visit(&point));
@@ -101,9 +107,10 @@ pub fn replay<M: Machine>(fresh: M, scope: &Scope, schedule: &[u32]) -> History 
 }
 
 impl Scope {
-    /// The keys that any call names, the first, the last of 32 bits and the two unlawful ones.
+    /// The keys that any put or get names, the first, the last of 32 bits and the two unlawful ones.
     fn keys(&self) -> Vec<u64> {
         let calls = self.first.iter().chain(self.scripts.iter().flatten());
+        let calls = calls.filter(|call| call.kind() != Kind::Scan);
         let others = [FIRST_KEY - 1, FIRST_KEY, u32::MAX.into(), LAST_KEY + 1];
         let mut keys: Vec<u64> = calls.map(|call| call.key()).chain(others).collect();
         keys.sort_unstable();
@@ -151,18 +158,22 @@ impl<M: Machine> Explorer<'_, M> {
     }
 
     /// The next move of a process, if it has one.
-    fn advance(&self, point: &Point<M>, process: u32) -> Result<Option<Point<M>>, String> {
+    fn advance(&mut self, point: &Point<M>, process: u32) -> Result<Option<Point<M>>, String> {
         if point.watch.spent() {
             return Ok(None);
         }
         let mut next = point.clone();
         if next.watch.is_running(process) {
-            step(&mut next, process)?;
+            let step = step(&mut next, process)?;
+            let (before, after) = (point.machine.store(), next.machine.store());
+            let since = point.since[process as usize];
+            self.report.meetings.count(&Move { before, after, process, step, since });
             return Ok(Some(next));
         }
         let place = &mut next.started[process as usize];
         let Some(&call) = self.scope.scripts[process as usize].get(*place) else { return Ok(None) };
         *place += 1;
+        next.since[process as usize] = since(point.machine.store(), call);
         let answer = next.machine.start(process, call);
         next.watch.start(process, call, answer)?;
         Ok(Some(next))
@@ -202,6 +213,7 @@ impl<M: Machine> Explorer<'_, M> {
         for process in 0..beyond {
             refused_start(machine, process, FIRST_KEY - 1, Refusal::KeyOutOfRange)?;
             refused_start(machine, process, LAST_KEY + 1, Refusal::KeyOutOfRange)?;
+            refused_spans(machine, process)?;
             if point.watch.is_running(process) {
                 refused_start(machine, process, FIRST_KEY, Refusal::Busy)?;
                 refused_start(machine, process, u32::MAX.into(), Refusal::Busy)?;
@@ -237,15 +249,32 @@ impl<M: Machine> Explorer<'_, M> {
     }
 }
 
-fn step<M: Machine>(point: &mut Point<M>, process: u32) -> Result<(), String> {
+fn step<M: Machine>(point: &mut Point<M>, process: u32) -> Result<Step, String> {
     let answer = point.machine.step(process);
     let after = point.machine.status(process);
-    point.watch.step(process, answer, after)
+    point.watch.step(process, answer, after)?;
+    answer.map_err(|refusal| format!("refused {}", refusal.number()))
 }
 
+/// Calls of every kind on a key.
 fn refused_start<M: Machine>(machine: &mut M, process: u32, key: u64, due: Refusal) -> Result<(), String> {
     refused(machine.start(process, Call::Get { key }), due)?;
-    refused(machine.start(process, Call::Put { key, value: 1, timestamp: 1, draw: 1 }), due)
+    refused(machine.start(process, Call::Put { key, value: 1, timestamp: 1, draw: 1 }), due)?;
+    refused(machine.start(process, Call::Scan { first: key, last: key }), due)
+}
+
+/// Either end out of range, also where the first is above the last; a first above the last, busy or spent or neither.
+fn refused_spans<M: Machine>(machine: &mut M, process: u32) -> Result<(), String> {
+    let spans = [
+        (FIRST_KEY - 1, LAST_KEY, Refusal::KeyOutOfRange),
+        (LAST_KEY + 1, FIRST_KEY, Refusal::KeyOutOfRange),
+        (LAST_KEY, FIRST_KEY - 1, Refusal::KeyOutOfRange),
+        (FIRST_KEY, LAST_KEY + 1, Refusal::KeyOutOfRange),
+        (FIRST_KEY + 1, FIRST_KEY, Refusal::BadSpan),
+        (1 << 32, u32::MAX.into(), Refusal::BadSpan),
+    ];
+    let mut spans = spans.into_iter();
+    spans.try_for_each(|(first, last, due)| refused(machine.start(process, Call::Scan { first, last }), due))
 }
 
 /// Tables or a tally of another length are refused 10 first of all; they are put right again.

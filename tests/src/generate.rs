@@ -58,7 +58,40 @@ pub fn near(random: &mut Random, key: u64) -> u64 {
     }
 }
 
-/// A random call on one of `keys` keys; timestamps lie near each other so that equal and older ones are common.
+/// A random call of any kind.
+pub fn any_call(random: &mut Random, keys: u32) -> Call {
+    if random.once_in(5) {
+        scan(random, keys)
+    } else {
+        call(random, keys)
+    }
+}
+
+/// A random scan: of one of `keys` keys, from one of them or a little above it to another, or of all.
+fn scan(random: &mut Random, keys: u32) -> Call {
+    let (one, other) = (key_of(random.below(keys)), key_of(random.below(keys)));
+    let (first, last) = (one.min(other), one.max(other));
+    match random.below(6) {
+        0 => Call::Scan { first: one, last: one },
+        1 => Call::Scan { first: FIRST_KEY, last: LAST_KEY },
+        2 if first < last => Call::Scan { first: first + 1, last },
+        _ => Call::Scan { first, last },
+    }
+}
+
+/// A call that its keys refuse: one out of range, at either end of a span, or a first above the last.
+pub fn unlawful_call(random: &mut Random) -> Call {
+    let (key, other) = (random.pick(&[FIRST_KEY - 1, LAST_KEY + 1]), random.pick(&EDGE_KEYS));
+    match random.below(5) {
+        0 => Call::Scan { first: key, last: other },
+        1 => Call::Scan { first: other, last: key },
+        2 => Call::Scan { first: random.pick(&FIRST_KEYS[1..]), last: FIRST_KEY },
+        _ => Call::Get { key },
+    }
+}
+
+/// A random put or get, as a sheet can start it, on one of `keys` keys; timestamps lie near each other so that equal and
+/// older ones are common.
 pub fn call(random: &mut Random, keys: u32) -> Call {
     let key = key_of(random.below(keys));
     if random.once_in(4) {
@@ -94,7 +127,12 @@ pub fn opening(random: &mut Random) -> Opening {
 
 /// A random history of a machine: starts, steps, looks, some refused. `build` makes the machine of a fresh store.
 pub fn history<M: Machine>(seed: u64, build: impl FnOnce(Store) -> M) -> History {
-    recorded(seed, 1_500, build).history()
+    recording(seed, build).history()
+}
+
+/// The same with the machine that it leaves.
+pub fn recording<M: Machine>(seed: u64, build: impl FnOnce(Store) -> M) -> Recorder<M> {
+    recorded(seed, 1_500, build)
 }
 
 /// The store that a short random history leaves; some processes are in the middle of a call.
@@ -114,6 +152,8 @@ fn recorded<M: Machine>(seed: u64, most: u32, build: impl FnOnce(Store) -> M) ->
             favourite = random.below(opening.processes);
         }
         let process = if random.once_in(3) { random.below(opening.processes) } else { favourite };
+        let passed_over = lingers(recorder.machine.store(), process) && !random.once_in(8);
+        let process = if passed_over { random.below(opening.processes) } else { process };
         entry(&mut random, &mut recorder, process, pool);
     }
     if random.once_in(2) {
@@ -122,16 +162,22 @@ fn recorded<M: Machine>(seed: u64, most: u32, build: impl FnOnce(Store) -> M) ->
     recorder
 }
 
+/// Is this a scan at the end of its walk? It is often left there, so that keys are made between p and its first.
+fn lingers(store: &Store, process: u32) -> bool {
+    let Process { phase, pred, preds, .. } = store.state.process[process as usize];
+    phase == Phase::Follow && pred == preds[0]
+}
+
 /// One entry: a look, a strange call, or the next move of the process.
 fn entry<M: Machine>(random: &mut Random, recorder: &mut Recorder<M>, process: u32, pool: u32) {
     match random.below(40) {
         0..=2 => drop(recorder.look(call(random, pool).key(), random.below(4))),
         3 => drop(recorder.look(stranger(random, pool), 0)),
         4 => drop(recorder.step(random.below(10))),
-        5 => drop(recorder.start(random.below(10), call(random, pool))),
-        6 => drop(recorder.start(process, Call::Get { key: random.pick(&[FIRST_KEY - 1, LAST_KEY + 1]) })),
+        5 => drop(recorder.start(random.below(10), any_call(random, pool))),
+        6 => drop(recorder.start(process, unlawful_call(random))),
         _ if recorder.is_running(process) => drop(recorder.step(process)),
-        _ => drop(recorder.start(process, call(random, pool))),
+        _ => drop(recorder.start(process, any_call(random, pool))),
     }
 }
 

@@ -61,9 +61,15 @@ impl Map {
         self.lists.get(&key).map(|list| list[0])
     }
 
-    /// Feeds a call. A put's outcome carries its own value and timestamp, none carries 0 and 0.
-    pub fn apply(&mut self, call: Call) -> Outcome {
-        match call {
+    /// The keys from a first to a last that have a list, rising.
+    pub fn held(&self, first: u64, last: u64) -> Vec<u64> {
+        self.lists.keys().copied().filter(|key| (first..=last).contains(key)).collect()
+    }
+
+    /// Feeds a call. A put's outcome carries its own value and timestamp, none carries 0 and 0. A scan takes no effect:
+    /// the ledger has no outcome for it.
+    pub fn apply(&mut self, call: Call) -> Option<Outcome> {
+        Some(match call {
             Call::Put { key, value, timestamp, .. } => {
                 Outcome { answer: self.put(key, value, timestamp), value, timestamp }
             }
@@ -71,7 +77,8 @@ impl Map {
                 Some((value, timestamp)) => Outcome { answer: Answer::Found, value, timestamp },
                 None => Outcome { answer: Answer::None, value: 0, timestamp: 0 },
             },
-        }
+            Call::Scan { .. } => return None,
+        })
     }
 
     /// What a look must answer.

@@ -25,7 +25,7 @@ pub const VERSION_WORDS: usize = 3;
 pub const MAX_KEYS: u32 = 1_023;
 pub const MAX_VERSIONS: u32 = 4_095;
 pub const MAX_LIMIT: u32 = 1_000_000_000;
-/// Counts of a tally: one for each [`Answer`], in its order.
+/// Counts of a tally: one for each [`Answer`] but a scan's, in their order.
 pub const COUNTS: usize = 7;
 
 // Words of a node.
@@ -40,7 +40,7 @@ pub(crate) const VALUE: usize = 0;
 pub(crate) const TIMESTAMP: usize = 1;
 pub(crate) const PREV: usize = 2;
 
-/// Why a call is refused; the number is document 01's. 14 to 16 are given by the sheet program only.
+/// Why a call is refused; the number is the documents'. 14 to 16 are given by the sheet program only.
 #[derive(Clone, Copy, Debug, PartialEq, Eq, Hash, PartialOrd, Ord)]
 #[repr(u8)]
 pub enum Refusal {
@@ -60,6 +60,7 @@ pub enum Refusal {
     NotOpened = 14,
     UnknownByte = 15,
     CutShort = 16,
+    BadSpan = 17,
 }
 
 impl Refusal {
@@ -73,6 +74,8 @@ pub enum Kind {
     Idle = 0,
     Put = 1,
     Get = 2,
+    /// Document 02: a sweep.
+    Scan = 3,
 }
 
 /// What the next step of a process will do.
@@ -87,9 +90,10 @@ pub enum Phase {
     Make = 6,
     Link = 7,
     Release = 8,
+    Follow = 9,
 }
 
-/// The seven answers; the number is the place of its count in the tally.
+/// The answers. A scan's is in no count; the number of any other is the place of its count in the tally.
 #[derive(Clone, Copy, Debug, PartialEq, Eq, Hash, PartialOrd, Ord)]
 pub enum Answer {
     TooOld = 0,
@@ -99,10 +103,11 @@ pub enum Answer {
     New = 4,
     Found = 5,
     None = 6,
+    Swept = COUNTS as isize,
 }
 
 impl Answer {
-    pub const ALL: [Answer; COUNTS] = [
+    pub const ALL: [Answer; COUNTS + 1] = [
         Answer::TooOld,
         Answer::ReadingsFull,
         Answer::Added,
@@ -110,25 +115,66 @@ impl Answer {
         Answer::New,
         Answer::Found,
         Answer::None,
+        Answer::Swept,
     ];
+
+    /// The place of its count in the tally, if it has one.
+    pub fn place(self) -> Option<usize> {
+        (self != Answer::Swept).then_some(self as usize)
+    }
 
     /// Is this an answer of a put?
     pub fn of_put(self) -> bool {
-        !matches!(self, Answer::Found | Answer::None)
+        !matches!(self, Answer::Found | Answer::None | Answer::Swept)
     }
 }
 
 /// A call with its arguments, as it is started.
 #[derive(Clone, Copy, Debug, PartialEq, Eq, Hash)]
 pub enum Call {
-    Put { key: u64, value: u32, timestamp: u32, draw: u16 },
-    Get { key: u64 },
+    Put {
+        key: u64,
+        value: u32,
+        timestamp: u32,
+        draw: u16,
+    },
+    Get {
+        key: u64,
+    },
+    /// All keys from the first to the last, both included, in order.
+    Scan {
+        first: u64,
+        last: u64,
+    },
 }
 
 impl Call {
+    /// The key that it walks to; a scan's first.
     pub fn key(self) -> u64 {
         match self {
             Call::Put { key, .. } | Call::Get { key } => key,
+            Call::Scan { first, .. } => first,
+        }
+    }
+
+    /// A scan's last key; 0 for another call.
+    pub fn last(self) -> u64 {
+        match self {
+            Call::Scan { last, .. } => last,
+            _ => 0,
+        }
+    }
+
+    /// What is wrong with its keys: refusal 6 reads both ends of a span, and 17 comes behind it.
+    pub fn wrong_keys(self) -> Option<Refusal> {
+        let (lawful, rising) = match self {
+            Call::Put { key, .. } | Call::Get { key } => (lawful_key(key), true),
+            Call::Scan { first, last } => (lawful_key(first) && lawful_key(last), first <= last),
+        };
+        match (lawful, rising) {
+            (false, _) => Some(Refusal::KeyOutOfRange),
+            (true, false) => Some(Refusal::BadSpan),
+            (true, true) => None,
         }
     }
 
@@ -136,6 +182,7 @@ impl Call {
         match self {
             Call::Put { .. } => Kind::Put,
             Call::Get { .. } => Kind::Get,
+            Call::Scan { .. } => Kind::Scan,
         }
     }
 }
@@ -144,7 +191,9 @@ impl Call {
 #[derive(Clone, Copy, Debug, PartialEq, Eq, Hash)]
 pub struct Process {
     pub kind: Kind,
+    /// The key that the call walks to, and a scan's last.
     pub key: u64,
+    pub last: u64,
     pub value: u32,
     pub timestamp: u32,
     pub top: u32,
@@ -167,6 +216,7 @@ impl Process {
     pub const IDLE: Process = Process {
         kind: Kind::Idle,
         key: 0,
+        last: 0,
         value: 0,
         timestamp: 0,
         top: 0,
@@ -302,16 +352,21 @@ impl Store {
         self.start(process, Call::Get { key })
     }
 
-    /// Gives a call to a process; answers its tick. Refusals 10, 5, 6, 7, 9.
+    pub fn start_scan(&mut self, process: u32, first: u64, last: u64) -> Result<u32, Refusal> {
+        self.start(process, Call::Scan { first, last })
+    }
+
+    /// Gives a call to a process; answers its tick. Refusals 10, 5, 6, 17 (of a scan), 7, 9.
     pub fn start(&mut self, process: u32, call: Call) -> Result<u32, Refusal> {
         self.check_lent()?;
         let index = self.check_process(process)?;
-        check_key(call.key())?;
+        call.wrong_keys().map_or(Ok(()), Err)?;
         require(self.state.process[index].kind == Kind::Idle, Refusal::Busy)?;
         let tick = self.next_tick()?;
-        let fresh = Process { kind: call.kind(), key: call.key(), start: tick, level: TOP_LEVEL, ..Process::IDLE };
+        let (kind, key, last) = (call.kind(), call.key(), call.last());
+        let fresh = Process { kind, key, last, start: tick, level: TOP_LEVEL, ..Process::IDLE };
         self.state.process[index] = match call {
-            Call::Get { .. } => fresh,
+            Call::Get { .. } | Call::Scan { .. } => fresh,
             Call::Put { value, timestamp, draw, .. } => Process { value, timestamp, top: top_of(draw), ..fresh },
         };
         self.state.events = tick;
@@ -378,6 +433,11 @@ impl Store {
         require(newest != 0 && newest <= self.state.versions, Refusal::AlteredMemory)?;
         Ok(newest)
     }
+
+    /// Value and timestamp of the version at a place.
+    pub(crate) fn version(&self, place: u32) -> (u32, u32) {
+        (self.version_word(place, VALUE), self.version_word(place, TIMESTAMP))
+    }
 }
 
 fn require(holds: bool, refusal: Refusal) -> Result<(), Refusal> {
@@ -386,11 +446,6 @@ fn require(holds: bool, refusal: Refusal) -> Result<(), Refusal> {
     } else {
         Err(refusal)
     }
-}
-
-/// Refusal 6.
-fn check_key(key: u64) -> Result<(), Refusal> {
-    require(lawful_key(key), Refusal::KeyOutOfRange)
 }
 
 /// The top level that a draw gives.

@@ -241,6 +241,7 @@ fn step_line(process: u8, step: Step) -> String {
     match step {
         Step::On(tick) => format!("step {process} {tick} on"),
         Step::Wait(tick) => format!("step {process} {tick} wait"),
+        Step::Shown { .. } => unreachable!("no command starts a scan"),
         Step::Done(Done { kind, answer, value, timestamp, start, effect, finish }) => {
             let (kind, answer) = (kind_word(kind), answer_word(answer));
             format!("done {process} {kind} {answer} {value} {timestamp} {start} {effect} {finish}")
@@ -253,6 +254,7 @@ fn kind_word(kind: Kind) -> &'static str {
         Kind::Idle => "idle",
         Kind::Put => "put",
         Kind::Get => "get",
+        Kind::Scan => "sweep",
     }
 }
 
@@ -265,5 +267,6 @@ fn answer_word(answer: Answer) -> &'static str {
         Answer::New => "new",
         Answer::Found => "found",
         Answer::None => "none",
+        Answer::Swept => "swept",
     }
 }

@@ -28,7 +28,10 @@ fn steps(recorder: &mut Recorder<Store>, process: u32, count: u32) {
 }
 
 fn objects(tamper: fn(&mut History), aspect: Aspect) {
-    let mut history = history();
+    objects_in(history(), tamper, aspect);
+}
+
+fn objects_in(mut history: History, tamper: fn(&mut History), aspect: Aspect) {
     assert_eq!(check(&history), []);
     tamper(&mut history);
     let objections = check(&history);
@@ -133,4 +136,115 @@ fn refusals() {
         *last_step(&mut history) = start(answer);
         assert_eq!(check(&history).len(), objections);
     }
+}
+
+/// Process 0 puts 5, 7 and 8; process 1 scans from 5 to 8 and is done, and while it runs 7 is put again ahead of it and
+/// 6 behind it; process 2 scans from 6 on and has shown 6.
+fn scan_history() -> History {
+    let opening = Opening { keys: 4, versions: 6, processes: 3, limit: 400 };
+    let mut recorder = Recorder::new(opening.fresh(), opening);
+    let put = |recorder: &mut Recorder<Store>, key, timestamp| {
+        recorder.start(0, Call::Put { key, value: 9, timestamp, draw: 1 }).unwrap();
+        while recorder.is_running(0) {
+            recorder.step(0).unwrap();
+        }
+    };
+    [5, 7, 8].into_iter().for_each(|key| put(&mut recorder, key, 100));
+    recorder.start(1, Call::Scan { first: 5, last: 8 }).unwrap();
+    steps(&mut recorder, 1, 7);
+    put(&mut recorder, 7, 101);
+    steps(&mut recorder, 1, 1);
+    put(&mut recorder, 6, 100);
+    steps(&mut recorder, 1, 2);
+    recorder.start(2, Call::Scan { first: 6, last: 9 }).unwrap();
+    steps(&mut recorder, 2, 8);
+    recorder.history()
+}
+
+/// What process 1 showed: 5, 7 and 8, each as the step's answer.
+fn shown(history: &mut History, place: usize) -> &mut Step {
+    let mut shown = history.entries.iter_mut().filter_map(|entry| match entry {
+        Entry::Step { process: 1, answer: Ok(step @ Step::Shown { .. }) } => Some(step),
+        _ => None,
+    });
+    shown.nth(place).expect("something shown")
+}
+
+fn set_shown(history: &mut History, place: usize, key: u64, value: u32, timestamp: u32) {
+    let tick = shown(history, place).tick();
+    *shown(history, place) = Step::Shown { tick, key, value, timestamp };
+}
+
+fn scan_done(history: &mut History) -> &mut Done {
+    let mut done = history.entries.iter_mut().filter_map(|entry| match entry {
+        Entry::Step { process: 1, answer: Ok(Step::Done(done)) } => Some(done),
+        _ => None,
+    });
+    done.next().expect("a finished scan")
+}
+
+fn scan_objects(tamper: fn(&mut History), aspect: Aspect) {
+    objects_in(scan_history(), tamper, aspect);
+}
+
+#[test]
+fn what_a_scan_shows_is_newest_at_its_tick() {
+    let mut history = scan_history();
+    let due = [(5, 100), (7, 101), (8, 100)];
+    for (place, (key, timestamp)) in due.into_iter().enumerate() {
+        let tick = shown(&mut history, place).tick();
+        assert_eq!(*shown(&mut history, place), Step::Shown { tick, key, value: 9, timestamp });
+    }
+    scan_objects(|h| set_shown(h, 0, 5, 8, 100), Aspect::Shown);
+    scan_objects(|h| set_shown(h, 1, 7, 9, 100), Aspect::Shown);
+    scan_objects(|h| set_shown(h, 0, 7, 9, 101), Aspect::Shown);
+    scan_objects(|h| set_shown(h, 0, 6, 9, 100), Aspect::Shown);
+}
+
+#[test]
+fn what_a_scan_shows_is_in_its_span_and_rises() {
+    scan_objects(|h| set_shown(h, 2, 9, 9, 100), Aspect::Span);
+    scan_objects(|h| set_shown(h, 0, 4, 9, 100), Aspect::Span);
+    scan_objects(|h| set_shown(h, 2, 5, 9, 100), Aspect::Rise);
+    scan_objects(|h| set_shown(h, 2, 7, 9, 101), Aspect::Rise);
+}
+
+#[test]
+fn a_finished_scan_has_shown_all_that_was_held() {
+    for place in 0..3 {
+        let mut history = scan_history();
+        let tick = shown(&mut history, place).tick();
+        *shown(&mut history, place) = Step::On(tick);
+        let aspects: Vec<Aspect> = check(&history).iter().map(|objection| objection.aspect).collect();
+        assert_eq!(aspects, [Aspect::Once], "{place}");
+    }
+    scan_objects(|h| set_shown(h, 2, 7, 9, 101), Aspect::Once);
+}
+
+#[test]
+fn a_finished_scan_says_swept_and_takes_no_effect() {
+    scan_objects(|h| scan_done(h).answer = Answer::None, Aspect::Answer);
+    scan_objects(|h| scan_done(h).value = 9, Aspect::Answer);
+    scan_objects(|h| scan_done(h).timestamp = 100, Aspect::Answer);
+    scan_objects(|h| scan_done(h).effect = scan_done(h).finish, Aspect::Effect);
+    scan_objects(|h| scan_done(h).kind = Kind::Get, Aspect::Call);
+    scan_objects(|h| h.ending.tally[6] += 1, Aspect::Tally);
+    let late: fn(&mut History) = |h| {
+        let Ok(Status::Running { kind: Kind::Scan, start, effect }) = &mut h.ending.statuses[2] else { panic!() };
+        *effect = *start + 1;
+    };
+    scan_objects(late, Aspect::Effect);
+    scan_objects(|h| h.ending.statuses[2] = Ok(Status::Idle), Aspect::Running);
+}
+
+/// The same word that ends a scan, or shows, ends no other call and is no other call's to show.
+#[test]
+fn other_calls_neither_sweep_nor_show() {
+    objects(|h| done(h).answer = Answer::Swept, Aspect::Answer);
+    let show = |h: &mut History| {
+        let entry = h.entries.iter_mut().find(|entry| matches!(entry, Entry::Step { process: 1, answer: Ok(_) }));
+        let Some(Entry::Step { answer: Ok(step), .. }) = entry else { panic!() };
+        *step = Step::Shown { tick: step.tick(), key: 7, value: 250, timestamp: 100 };
+    };
+    objects(show, Aspect::Shown);
 }

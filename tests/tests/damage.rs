@@ -2,7 +2,7 @@
 
 use std::collections::BTreeMap;
 use store_tests::damage::{case, other_garbage, Operation, Reply};
-use store_tests::model::{Refusal, State, Store};
+use store_tests::model::{Answer, Kind, Phase, Refusal, State, Step, Store};
 
 const CASES: u64 = 120_000;
 
@@ -22,9 +22,38 @@ fn every_case_is_answered_and_refusals_change_nothing() {
         *replies.entry(name(reply)).or_default() += 1;
     }
     println!("{replies:?}");
-    for number in 1..=13 {
+    for number in (1..=13).chain([17]) {
         assert!(replies.contains_key(&format!("refused {number}")), "refusal {number} never given");
     }
+}
+
+/// What the altered steps of scans, and those in their phase, come to.
+#[test]
+fn scans_are_met() {
+    let mut met: BTreeMap<&str, u64> = BTreeMap::new();
+    for seed in 0..CASES / 2 {
+        let case = case(seed);
+        let Operation::Step { process } = case.operation else { continue };
+        let Some(&call) = case.store.state.process.get(process as usize) else { continue };
+        let follows = follows(&case.store, process);
+        let name = match (call.kind, case.operation.perform(&mut case.store.clone())) {
+            (Kind::Scan, Reply::Stepped(Step::Shown { .. })) if call.level > 0 => "shown, level above 0",
+            (Kind::Scan, Reply::Stepped(Step::Shown { .. })) => "shown",
+            (Kind::Scan, Reply::Stepped(Step::On(_))) if follows && call.key > call.last => "passed, first above last",
+            (Kind::Scan, Reply::Stepped(Step::On(_))) if follows => "passed",
+            (Kind::Scan, Reply::Stepped(Step::On(_))) => "walked",
+            (Kind::Scan, Reply::Stepped(Step::Done(done))) if done.answer == Answer::Swept => "swept",
+            (Kind::Scan, Reply::Refused(Refusal::AlteredMemory)) if call.effect != 0 => "effect tick",
+            (Kind::Scan, Reply::Refused(Refusal::AlteredMemory)) if follows => "followed, 11",
+            (Kind::Scan, Reply::Refused(Refusal::AlteredMemory)) => "another phase or walked, 11",
+            (Kind::Put | Kind::Get, Reply::Refused(Refusal::AlteredMemory)) if follows => "another call follows, 11",
+            (Kind::Put, Reply::Refused(Refusal::AlteredMemory)) if call.answer == Answer::Swept => "put swept, 11",
+            _ => continue,
+        };
+        *met.entry(name).or_default() += 1;
+    }
+    println!("{met:?}");
+    assert!(met.len() == 11 && met.values().all(|&count| count > 20), "{met:?}");
 }
 
 fn name(reply: Reply) -> String {
@@ -62,10 +91,17 @@ fn high_halves_are_met() {
     let mut met: BTreeMap<&str, u64> = BTreeMap::new();
     for seed in 0..CASES {
         let case = case(seed);
-        let (mut store, mut low) = (case.store.clone(), case.store);
+        let (mut store, mut low) = (case.store.clone(), case.store.clone());
         low.node_table.iter_mut().skip(3).step_by(16).for_each(|high| *high = 0);
-        let differ = case.operation.perform(&mut store) != case.operation.perform(&mut low);
+        let replies = [case.operation.perform(&mut store), case.operation.perform(&mut low)];
+        let differ = replies[0] != replies[1];
         let name = match case.operation {
+            Operation::Step { process } if follows(&case.store, process) => {
+                if outcome(replies[0]) == outcome(replies[1]) {
+                    continue;
+                }
+                "follow"
+            }
             Operation::Step { .. } if differ || store.state != low.state => "step",
             Operation::Look { .. } if differ => "look",
             Operation::Inspect if differ => "inspect",
@@ -74,7 +110,17 @@ fn high_halves_are_met() {
         *met.entry(name).or_default() += 1;
     }
     println!("{met:?}");
-    assert!(met.len() == 3 && met.values().all(|&count| count > 200), "{met:?}");
+    assert!(met.len() == 4 && met.values().all(|&count| count > 200), "{met:?}");
+}
+
+fn follows(store: &Store, process: u32) -> bool {
+    store.state.process.get(process as usize).is_some_and(|call| call.phase == Phase::Follow)
+}
+
+/// Whether a step went on, showed, finished or was refused; not the key that it showed, which has a high half itself.
+fn outcome(reply: Reply) -> [u32; 2] {
+    let words = reply.words();
+    [words[0], words[1]]
 }
 
 #[test]

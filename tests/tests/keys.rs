@@ -76,8 +76,8 @@ fn words_hold_the_low_half_and_the_high_half() {
     let mut store = fresh();
     store.start_put(1, key, 77, 3, 2).unwrap();
     let words = store.state.to_words();
-    assert_eq!((words.len(), STATE_WORDS), (160, 160));
-    assert_eq!(words[8 + 19..][..8], [1, 0x9ABC_DEF0, 0x1234_5678, 77, 3, 1, 1, 0]);
+    assert_eq!((words.len(), STATE_WORDS), (176, 176));
+    assert_eq!(words[8 + 21..][..10], [1, 0x9ABC_DEF0, 0x1234_5678, 0, 0, 77, 3, 1, 1, 0]);
     finish(&mut store, 1);
     assert_eq!(store.node_table[16..32], [0x9ABC_DEF0, 1, 1, 0x1234_5678, 0, 0, 0, 0, 0, 0, 0, 0, 0, 0, 0, 0]);
 }

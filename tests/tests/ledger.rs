@@ -25,10 +25,10 @@ fn a_new_key_can_meet_full_readings() {
 #[test]
 fn gets_see_the_newest() {
     let mut map = Map::new(2, 3);
-    assert_eq!(map.apply(Call::Get { key: 7 }), Outcome { answer: Answer::None, value: 0, timestamp: 0 });
+    assert_eq!(map.apply(Call::Get { key: 7 }), Some(Outcome { answer: Answer::None, value: 0, timestamp: 0 }));
     map.put(7, 1, 100);
     map.put(7, 2, 100);
-    assert_eq!(map.apply(Call::Get { key: 7 }), Outcome { answer: Answer::Found, value: 2, timestamp: 100 });
+    assert_eq!(map.apply(Call::Get { key: 7 }), Some(Outcome { answer: Answer::Found, value: 2, timestamp: 100 }));
 }
 
 #[test]
@@ -42,4 +42,15 @@ fn looks_go_back() {
     assert_eq!([map.look(0, 0), map.look(u64::MAX, 0)], [Err(Refusal::KeyOutOfRange); 2]);
     assert_eq!(map.look(u64::MAX - 1, 0), Err(Refusal::NoSuchKey));
     assert_eq!(map.look((1 << 32) + 7, 0), Err(Refusal::NoSuchKey), "another key of the same low half");
+}
+
+#[test]
+fn spans_hold_the_keys_that_have_a_list() {
+    let mut map = Map::new(4, 4);
+    [7, 5, 1 << 32].into_iter().for_each(|key| assert_eq!(map.put(key, 1, 100), Answer::New));
+    assert_eq!(map.held(5, 1 << 32), [5, 7, 1 << 32]);
+    assert_eq!((map.held(6, 7), map.held(8, 9), map.held(7, 5)), (vec![7], vec![], vec![]));
+    let before = map.clone();
+    assert_eq!(map.apply(Call::Scan { first: 1, last: 9 }), None, "a scan takes no effect");
+    assert_eq!(map, before);
 }

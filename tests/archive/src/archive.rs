@@ -47,6 +47,19 @@ extern "C" {
         tick: *mut u32,
     ) -> u32;
 
+    fn tray_start_sweep(
+        state: *mut u32,
+        state_words: usize,
+        nodes: *const u32,
+        node_words: usize,
+        readings: *const u32,
+        reading_words: usize,
+        station: u32,
+        first: u64,
+        last: u64,
+        tick: *mut u32,
+    ) -> u32;
+
     fn tray_step(
         state: *mut u32,
         state_words: usize,
@@ -94,6 +107,7 @@ pub const ARCHIVE: Interface = Interface {
     open: tray_open,
     start_put: tray_start_put,
     start_get: tray_start_get,
+    start_sweep: tray_start_sweep,
     step: tray_step,
     look: tray_look,
     inspect: tray_inspect,

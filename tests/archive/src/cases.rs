@@ -58,7 +58,8 @@ pub fn heads(seed: u64) -> Vec<Case> {
     let case = |number: u64| {
         let turn = seed.wrapping_mul(HEADS).wrapping_add(number);
         let (at, turn) = ((turn % HEAD as u64) as usize, turn / HEAD as u64);
-        let (asked, turn) = (Asked::ALL[(turn % 7) as usize], turn / 7);
+        let calls = Asked::ALL.len() as u64;
+        let (asked, turn) = (Asked::ALL[(turn % calls) as usize], turn / calls);
         let mut words = words.clone();
         words.part_mut(Part::State)[at] = edge(turn, &words);
         let operation = asking(asked, &mut random, &words, None);
@@ -68,7 +69,7 @@ pub fn heads(seed: u64) -> Vec<Case> {
 }
 
 /// One to three words of nodes and versions in use altered, for an inspection (mostly of an idle store), a look or a
-/// step; at times beside unknown numbers.
+/// step, also of a sweep that follows; at times beside unknown numbers.
 pub fn tables(seed: u64) -> Vec<Case> {
     let (words, mut random) = live(seed);
     let case = |_| {
@@ -83,6 +84,12 @@ pub fn tables(seed: u64) -> Vec<Case> {
             free_locks(&mut words);
         }
         let operation = asking(asked, &mut random, &words, None);
+        match operation {
+            Operation::Step { process } if process < 8 && random.once_in(2) => {
+                let_follow(&mut random, &mut words, process)
+            }
+            _ => {}
+        }
         Case { words, operation, wide: None }
     };
     (0..32).map(case).collect()
@@ -141,7 +148,7 @@ pub fn random_words(seed: u64) -> Vec<Case> {
         let operation = operation(&mut random, &words, None);
         Case { words, operation, wide: None }
     };
-    (0..20).map(case).collect()
+    (0..30).map(case).collect()
 }
 
 fn live(seed: u64) -> (Words, Random) {

@@ -4,9 +4,9 @@ use crate::cases::{self, Case};
 use crate::run::{Failure, Run};
 use crate::words::*;
 use store_tests::damage::Operation;
-use store_tests::generate::call;
+use store_tests::generate::{any_call, call};
 use store_tests::ledger::Opening;
-use store_tests::model::{key_of_halves, Call, MAX_LIMIT};
+use store_tests::model::{key_of_halves, Call, FIRST_KEY, LAST_KEY, MAX_LIMIT};
 use store_tests::random::Random;
 
 /// One store and the run that it is compared in.
@@ -69,13 +69,15 @@ impl<'r, 'a> Story<'r, 'a> {
     /// One call: mostly the next move of a process, the favourite or another.
     fn turn(&mut self, favourite: u32) -> Result<u32, Failure> {
         let process = if self.random.once_in(3) { self.random.below(self.processes) } else { favourite };
+        let passed_over = self.words.lingers(process) && !self.random.once_in(8);
+        let process = if passed_over { self.random.below(self.processes) } else { process };
         let operation = match self.random.below(40) {
             0..=2 => Operation::Look { key: call(&mut self.random, self.pool).key(), back: self.random.below(4) },
             3 => cases::operation(&mut self.random, &self.words, None),
             4 => Operation::Inspect,
             5 => Operation::Status { process: self.random.below(9) },
             _ if self.words.is_running(process) => Operation::Step { process },
-            _ => Operation::Start { process, call: call(&mut self.random, self.pool) },
+            _ => Operation::Start { process, call: any_call(&mut self.random, self.pool) },
         };
         self.call(operation)
     }
@@ -151,9 +153,11 @@ impl<'r, 'a> Story<'r, 'a> {
 
 /// Once in so many fills the most trays, and once the most readings.
 const LARGEST: u64 = 100;
+/// Sweeps beside the puts of a fill; each may go over all of it.
+const SWEEPS: u32 = 6;
 
-/// A store filled with trays, then with readings, by all its processes at once, and some puts more that find it full;
-/// then single calls on the full store with some words altered.
+/// A store filled with trays, then with readings, by all its processes at once, beside some sweeps, and some puts more
+/// that find it full; then a sweep of all, and single calls on the full store with some words altered.
 pub fn fill(run: &mut Run, seed: u64) -> Result<(), Failure> {
     let mut random = Random::new(seed ^ 0xF111_0000);
     let (keys, versions, processes) = match seed % LARGEST {
@@ -163,40 +167,64 @@ pub fn fill(run: &mut Run, seed: u64) -> Result<(), Failure> {
         _ => (random.within(1, 12), random.within(1, 40), random.within(1, 8)),
     };
     let mut story = Story::open(run, random, Opening { keys, versions, processes, limit: MAX_LIMIT })?;
-    let order = story.random.below(3);
-    let (mut puts, mut too_many) = (0, 0);
+    let row = Row { fresh: keys + 2, order: story.random.below(3) };
+    let (mut puts, mut sweeps, mut too_many) = (0, 0, 0);
     while too_many < 12 {
         let process = story.random.below(processes);
         if story.words.is_running(process) {
-            story.call(Operation::Step { process })?;
-            continue;
+            if !story.words.lingers(process) || story.random.once_in(6) {
+                story.call(Operation::Step { process })?;
+            }
+        } else if sweeps < SWEEPS && story.random.once_in(3) {
+            sweeps += 1;
+            let call = row.scan(&mut story.random);
+            story.call(Operation::Start { process, call })?;
+        } else {
+            let call = row.put(&mut story.random, puts);
+            story.call(Operation::Start { process, call })?;
+            puts += 1;
+            too_many += u32::from(story.words.state_word(8) == versions);
         }
-        let call = story.put(keys, order, puts);
-        story.call(Operation::Start { process, call })?;
-        puts += 1;
-        too_many += u32::from(story.words.state_word(8) == versions);
     }
+    story.finish()?;
+    story.call(Operation::Start { process: 0, call: Call::Scan { first: FIRST_KEY, last: LAST_KEY } })?;
     story.finish()?;
     story.survey()?;
     story.on_full()
 }
 
-impl Story<'_, '_> {
-    /// The put of this number: first new keys in a rising, falling or mixed order, two too many, then further versions
-    /// of three of them. Timestamps rise, but some are too old.
-    fn put(&mut self, keys: u32, order: u32, number: u32) -> Call {
-        let fresh = keys + 2;
-        let place = if number < fresh { number + 1 } else { self.random.within(1, 3) };
-        let key = match order {
+/// The trays of a fill: so many, in a rising, falling or mixed order.
+struct Row {
+    fresh: u32,
+    order: u32,
+}
+
+impl Row {
+    fn key(&self, place: u32) -> u64 {
+        match self.order {
             0 => place.into(),
             // Low halves of 0: only the high ones are apart.
-            1 => key_of_halves(0, fresh + 1 - place),
+            1 => key_of_halves(0, self.fresh + 1 - place),
             _ => u64::from(place).wrapping_mul(0x9E37_79B9_7F4A_7C15),
-        };
-        let timestamp = 1_000 + number - if self.random.once_in(16) { 20 } else { 0 };
-        Call::Put { key, value: self.random.word(), timestamp, draw: self.random.word() as u16 }
+        }
     }
 
+    /// The put of this number: first new keys, two too many, then further versions of three of them. Timestamps rise,
+    /// but some are too old.
+    fn put(&self, random: &mut Random, number: u32) -> Call {
+        let place = if number < self.fresh { number + 1 } else { random.within(1, 3) };
+        let timestamp = 1_000 + number - if random.once_in(16) { 20 } else { 0 };
+        Call::Put { key: self.key(place), value: random.word(), timestamp, draw: random.word() as u16 }
+    }
+
+    /// From any of the keys to any other.
+    fn scan(&self, random: &mut Random) -> Call {
+        let (one, other) = (self.key(random.within(1, self.fresh)), self.key(random.within(1, self.fresh)));
+        Call::Scan { first: one.min(other), last: one.max(other) }
+    }
+}
+
+impl Story<'_, '_> {
     /// Calls on copies of the full store, each with up to three words of the tables altered.
     fn on_full(&mut self) -> Result<(), Failure> {
         let mut cases = Vec::new();

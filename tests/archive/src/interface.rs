@@ -9,13 +9,14 @@ pub struct Interface {
     pub open: Open,
     pub start_put: StartPut,
     pub start_get: StartGet,
+    pub start_sweep: StartSweep,
     pub step: Step,
     pub look: Look,
     pub inspect: Inspect,
     pub standing: Standing,
 }
 
-// Each pointer but those of answers is followed by its count of words; the u64 is a tray.
+// Each pointer but those of answers is followed by its count of words; a u64 is a tray.
 pub type Open = unsafe extern "C" fn(*mut u32, usize, *mut u32, usize, *mut u32, usize, u32, u32) -> u32;
 pub type StartPut = unsafe extern "C" fn(
     *mut u32,
@@ -33,6 +34,8 @@ pub type StartPut = unsafe extern "C" fn(
 ) -> u32;
 pub type StartGet =
     unsafe extern "C" fn(*mut u32, usize, *const u32, usize, *const u32, usize, u32, u64, *mut u32) -> u32;
+pub type StartSweep =
+    unsafe extern "C" fn(*mut u32, usize, *const u32, usize, *const u32, usize, u32, u64, u64, *mut u32) -> u32;
 pub type Step =
     unsafe extern "C" fn(*mut u32, usize, *mut u32, usize, *mut u32, usize, *mut u32, usize, u32, *mut u32) -> u32;
 pub type Look =

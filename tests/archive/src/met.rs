@@ -1,20 +1,32 @@
-//! What the calls met: every refusal that document 01 allows a call, with its causes where they are told apart, and
+//! What the calls met: every refusal that the documents allow a call, with its causes where they are told apart, and
 //! every kind of answer. A run that leaves one out has shown too little.
 
+mod keys;
+mod scans;
+
 use crate::expected::{unknown_beside, Flaw, Outcome};
-use crate::words::{Part, Words, LEVEL, PHASE, PRED};
+use crate::words::{Part, Words, PHASE};
+use keys::key_kinds;
+use scans::scan_kinds;
 use std::collections::{BTreeMap, BTreeSet};
 use std::fmt;
 use store_tests::damage::Operation;
-use store_tests::model::{high_half, low_half, Call, FIRST_KEY, LAST_KEY, MAX_LIMIT};
+use store_tests::model::{Call, COUNTS, MAX_LIMIT};
 
-const PHASES: [&str; 9] = ["walk", "read", "seek", "lock", "check", "update", "make", "link", "release"];
-const ANSWERS: [&str; 7] = ["too-old", "readings-full", "added", "trays-full", "new", "found", "none"];
-/// The refusals of each call, by document 01; an open's 10 is a state of another length.
-const REFUSALS: [(&str, &[u32]); 7] = [
+const PHASES: [&str; 10] = ["walk", "read", "seek", "lock", "check", "update", "make", "link", "release", "follow"];
+const ANSWERS: [&str; 8] = ["too-old", "readings-full", "added", "trays-full", "new", "found", "none", "swept"];
+const KINDS: [&str; 4] = ["idle", "put", "get", "sweep"];
+// What a step did, as word 1 of an outcome says it.
+const ON: u32 = 0;
+const WAIT: u32 = 1;
+const DONE: u32 = 2;
+const SHOWN: u32 = 3;
+/// The refusals of each call; an open's 10 is a state of another length.
+const REFUSALS: [(&str, &[u32]); 8] = [
     ("open", &[1, 2, 3, 4, 10]),
     ("start-put", &[5, 6, 7, 9, 10]),
     ("start-get", &[5, 6, 7, 9, 10]),
+    ("start-sweep", &[5, 6, 7, 9, 10, 17]),
     ("step", &[5, 8, 9, 10, 11]),
     ("look", &[6, 10, 11, 12, 13]),
     ("inspect", &[7, 10]),
@@ -26,6 +38,7 @@ pub fn name(operation: Operation) -> &'static str {
         Operation::Open { .. } => "open",
         Operation::Start { call: Call::Put { .. }, .. } => "start-put",
         Operation::Start { call: Call::Get { .. }, .. } => "start-get",
+        Operation::Start { call: Call::Scan { .. }, .. } => "start-sweep",
         Operation::Step { .. } => "step",
         Operation::Look { .. } => "look",
         Operation::Inspect => "inspect",
@@ -63,34 +76,32 @@ const OF_TABLES: [&str; 3] = ["node table unlike", "reading table unlike", "wide
 pub struct Before {
     phase: u32,
     tally: Vec<u32>,
-    /// The key of the call that is stepped.
-    key: u64,
-    /// Would the low halves alone compare that key otherwise with the one that p's link leads to?
-    by_high: bool,
+    keys: keys::Before,
+    scan: scans::Before,
 }
 
 impl Before {
     pub fn of(words: &Words, operation: Operation) -> Before {
         let Operation::Step { process } = operation else { return Before::default() };
-        let [phase, level, pred] = [PHASE, LEVEL, PRED].map(|word| words.process_word(process, word));
-        let key = words.process_key(process);
-        let next = words.next(pred, level);
-        let met = words.node_key(next);
-        let by_high = next != 0 && met.cmp(&key) != low_half(met).cmp(&low_half(key));
-        Before { phase, tally: words.part(Part::Tally).to_vec(), key, by_high }
+        let phase = words.process_word(process, PHASE);
+        let (keys, scan) = (keys::Before::of(words, process), scans::Before::of(words, process));
+        Before { phase, tally: words.part(Part::Tally).to_vec(), keys, scan }
+    }
+
+    fn phase(&self) -> &'static str {
+        PHASES.get(self.phase as usize).unwrap_or(&"")
     }
 
     /// Did a finished call meet a count that grows no more?
     fn counted_out(&self, outcome: &Outcome) -> bool {
         let [number, what, _, _, answer, ..] = outcome.words;
-        number == 0 && what == 2 && self.tally[answer as usize] == u32::MAX
+        number == 0 && what == DONE && self.tally.get(answer as usize) == Some(&u32::MAX)
     }
 }
 
 /// The kind of a call's outcome.
-fn kind(phase: u32, words: &Words, operation: Operation, outcome: &Outcome) -> String {
+fn kind(phase: &str, words: &Words, operation: Operation, outcome: &Outcome) -> String {
     let name = name(operation);
-    let phase = PHASES.get(phase as usize).unwrap_or(&"");
     let [number, first, second, _, answer, ..] = outcome.words;
     match (number, operation) {
         (10, _) => match outcome.flaw {
@@ -99,74 +110,15 @@ fn kind(phase: u32, words: &Words, operation: Operation, outcome: &Outcome) -> S
         },
         (11, Operation::Step { .. }) => format!("{name} 11 {phase}"),
         (0, Operation::Step { .. }) => match first {
-            2 => format!("{name} 0 done {} {phase}", ANSWERS[answer as usize]),
-            _ => format!("{name} 0 {} {phase}", ["on", "wait"][first as usize]),
+            DONE => format!("{name} 0 done {} {phase}", ANSWERS[answer as usize]),
+            ON => format!("{name} 0 on {phase}"),
+            WAIT => format!("{name} 0 wait {phase}"),
+            _ => format!("{name} 0 shown {phase}"),
         },
         (0, Operation::Inspect) if first == 1 => format!("{name} 0 fault {second}"),
-        (0, Operation::Status { .. }) => format!("{name} 0 {}", ["idle", "put", "get"][first as usize]),
+        (0, Operation::Status { .. }) => format!("{name} 0 {}", KINDS[first as usize]),
         _ => format!("{name} {number}"),
     }
-}
-
-/// Steps that compare keys.
-const COMPARING: [&str; 3] = ["walk", "seek", "check"];
-
-/// What an outcome shows of keys above 32 bits and of the ends of their range.
-fn key_kinds(before: &Before, words: &Words, operation: Operation, outcome: &Outcome) -> Vec<String> {
-    let name = name(operation);
-    let [number, first, _, _, answer, ..] = outcome.words;
-    let phase = PHASES.get(before.phase as usize).unwrap_or(&"");
-    let key = match operation {
-        Operation::Start { call, .. } => call.key(),
-        Operation::Look { key, .. } => key,
-        _ => before.key,
-    };
-    let long = high_half(key) != 0;
-    match (number, operation) {
-        (6, _) => vec![format!("{name} 6 {key}")],
-        (0, Operation::Step { .. }) => {
-            let done = (first == 2 && long).then(|| format!("step 0 {}, long tray", ANSWERS[answer as usize]));
-            let by_high = before.by_high && COMPARING.contains(phase);
-            done.into_iter().chain(by_high.then(|| format!("step 0 {phase} by the high half"))).collect()
-        }
-        (0, Operation::Inspect) => inspected_by_high(words, outcome).into_iter().collect(),
-        (0, Operation::Start { .. }) if [FIRST_KEY, LAST_KEY].contains(&key) => vec![format!("{name} 0 {key}")],
-        (0, Operation::Start { .. }) | (0 | 11..=13, Operation::Look { .. }) if long => {
-            vec![format!("{name} {number}, long tray")]
-        }
-        _ => vec![],
-    }
-}
-
-/// Does a sound inspection, or a fault, hang on high halves: do keys rise, or fail to, otherwise than their low halves?
-fn inspected_by_high(words: &Words, outcome: &Outcome) -> Option<String> {
-    let [_, fault, level, node, ..] = outcome.words;
-    let rises = |node: u32, level: u32| {
-        let next = words.next(node, level);
-        let (key, behind) = (words.node_key(node), words.node_key(next));
-        (next != 0 && next <= words.state_word(7)).then_some((key < behind, low_half(key) < low_half(behind)))
-    };
-    if fault == 1 {
-        return (rises(node, level) == Some((false, true))).then(|| "inspect 0 fault by the high half".to_string());
-    }
-    let mut nodes = 0..=words.state_word(7);
-    let sound = nodes.any(|node| rises(node, 0) == Some((true, false)));
-    sound.then(|| "inspect 0 sound by the high half".to_string())
-}
-
-/// All kinds of `key_kinds` that can be met.
-fn possible_of_keys() -> impl Iterator<Item = String> {
-    let starts = ["start-put", "start-get"].into_iter();
-    let ends = [FIRST_KEY, LAST_KEY].map(|key| format!("0 {key}"));
-    let started = [ends[0].clone(), ends[1].clone(), "0, long tray".to_string()];
-    let starts = starts.flat_map(move |name| started.clone().map(|kind| format!("{name} {kind}")));
-    let looks = [0, 11, 12, 13].map(|number| format!("look {number}, long tray"));
-    let refused = ["start-put", "start-get", "look"].into_iter();
-    let refused = refused.flat_map(|name| [0, LAST_KEY + 1].map(|key| format!("{name} 6 {key}")));
-    let done = ANSWERS.map(|answer| format!("step 0 {answer}, long tray"));
-    let steps = COMPARING.map(|phase| format!("step 0 {phase} by the high half"));
-    let inspected = ["sound", "fault"].map(|what| format!("inspect 0 {what} by the high half"));
-    starts.chain(looks).chain(refused).chain(done).chain(steps).chain(inspected)
 }
 
 /// All kinds that can be met.
@@ -177,20 +129,22 @@ fn possible() -> BTreeSet<String> {
         kinds.extend(plain.map(|number| format!("{name} {number}")));
         kinds.extend(causes(name).iter().map(|cause| format!("{name} 10 {cause}")));
     }
-    kinds.extend(["open 0", "start-put 0", "start-get 0", "look 0", "inspect 0"].map(String::from));
+    kinds.extend(["open 0", "start-put 0", "start-get 0", "start-sweep 0", "look 0", "inspect 0"].map(String::from));
     kinds.extend((0..6).map(|level| format!("inspect 0 fault {level}")));
-    kinds.extend(["idle", "put", "get"].map(|kind| format!("standing 0 {kind}")));
+    kinds.extend(KINDS.map(|kind| format!("standing 0 {kind}")));
     kinds.extend(PHASES.map(|phase| format!("step 11 {phase}")));
     let on = PHASES.iter().filter(|&&phase| phase != "read");
     kinds.extend(on.map(|phase| format!("step 0 on {phase}")));
     kinds.extend(ANSWERS[..5].iter().map(|answer| format!("step 0 done {answer} release")));
     kinds.extend(["step 0 wait lock", "step 0 done found read", "step 0 done none walk"].map(String::from));
-    kinds.extend(ANSWERS.map(|answer| format!("step 0 {answer} at the last count")));
+    kinds.extend(["step 0 shown follow", "step 0 done swept follow"].map(String::from));
+    kinds.extend(ANSWERS[..COUNTS].iter().map(|answer| format!("step 0 {answer} at the last count")));
     for (name, refusals) in &REFUSALS[1..] {
         let others = refusals.iter().filter(|&&number| number != 10);
         kinds.extend([0].iter().chain(others).map(|number| format!("{name} {number} beside unknown numbers")));
     }
-    kinds.extend(possible_of_keys());
+    kinds.extend(keys::possible());
+    kinds.extend(scans::possible());
     kinds
 }
 
@@ -220,12 +174,13 @@ impl Default for Met {
 }
 
 impl Met {
-    /// Counts a call; `words` are from behind it.
-    pub fn count(&mut self, before: &Before, words: &Words, operation: Operation, outcome: &Outcome) {
+    /// Counts a call of a plan; `words` are from behind it.
+    pub fn count(&mut self, plan: &str, before: &Before, words: &Words, operation: Operation, outcome: &Outcome) {
         let number = outcome.words[0];
         *self.numbers.entry((name(operation), number)).or_default() += 1;
-        self.add(kind(before.phase, words, operation, outcome));
+        self.add(kind(before.phase(), words, operation, outcome));
         key_kinds(before, words, operation, outcome).into_iter().for_each(|kind| self.add(kind));
+        scan_kinds(plan, before, operation, outcome).into_iter().for_each(|kind| self.add(kind));
         if number != 10 && unknown_beside(words.state(), operation) {
             self.add(format!("{} {number} beside unknown numbers", name(operation)));
         }
@@ -263,7 +218,7 @@ impl fmt::Display for Met {
     fn fmt(&self, f: &mut fmt::Formatter) -> fmt::Result {
         for (name, refusals) in REFUSALS {
             let count = |number: u32| self.numbers.get(&(name, number)).copied().unwrap_or(0);
-            write!(f, "{name:>10}: {} given; refused", count(0))?;
+            write!(f, "{name:>11}: {} given; refused", count(0))?;
             for &number in refusals {
                 write!(f, " {number}: {},", count(number))?;
             }

@@ -35,7 +35,8 @@ pub struct Run<'a> {
     pub calls: u64,
     by_plan: [u64; PLANS.len()],
     seed: u64,
-    /// Calls of this seed so far.
+    /// The plan of this seed, and its calls so far.
+    plan: usize,
     call: u64,
 }
 
@@ -66,6 +67,7 @@ impl<'a> Run<'a> {
             calls: 0,
             by_plan: [0; PLANS.len()],
             seed: 0,
+            plan: 0,
             call: 0,
         }
     }
@@ -87,6 +89,7 @@ impl<'a> Run<'a> {
         let (round, mut place) = (seed / ROUND, seed % ROUND);
         for (number, (_, share, plan)) in PLANS.into_iter().enumerate() {
             if place < share {
+                self.plan = number;
                 plan(self, round * share + place)?;
                 self.by_plan[number] += self.call;
                 return Ok(());
@@ -125,7 +128,7 @@ impl<'a> Run<'a> {
         let (seed, call) = (self.seed, self.call);
         let failure = |difference| Failure { seed, call, operation, difference };
         self.subject.compare(number, &outcome, words).map_err(failure)?;
-        self.met.count(&before, words, operation, &outcome);
+        self.met.count(PLANS[self.plan].0, &before, words, operation, &outcome);
         self.calls += 1;
         self.call += 1;
         Ok(outcome)

@@ -102,6 +102,9 @@ impl<'a> Subject<'a> {
             Operation::Start { process, call: Call::Get { key } } => {
                 (calls.start_get)(state, s, nodes, n, versions, v, process, key, answer)
             }
+            Operation::Start { process, call: Call::Scan { first, last } } => {
+                (calls.start_sweep)(state, s, nodes, n, versions, v, process, first, last, answer)
+            }
             Operation::Step { process } => (calls.step)(state, s, nodes, n, versions, v, tally, t, process, answer),
             Operation::Look { key, back } => (calls.look)(state, s, nodes, n, versions, v, key, back, answer),
             Operation::Inspect => (calls.inspect)(state, s, nodes, n, versions, v, answer),

@@ -1,26 +1,32 @@
 //! The words that a store's calls are lent, and where the numbers of a state stand in them.
 
-use store_tests::model::{key_of_halves, State, Store, LEVELS, STATE_WORDS};
+use store_tests::model::{key_of_halves, Kind, Phase, State, Store, LEVELS, STATE_WORDS};
 
 /// Word 0 of every state.
-pub const LAYOUT: u32 = 2;
+pub const LAYOUT: u32 = 3;
 /// Words of a state: the layout's number, then those of the model.
 pub const STATE: usize = 1 + STATE_WORDS;
 /// Words before the first process.
 pub const HEAD: usize = 9;
-pub const PROCESS: usize = 13 + LEVELS;
+pub const PROCESS: usize = 15 + LEVELS;
 // Words of a process that are numbers of an enum, each with its greatest number.
 pub const KIND: usize = 0;
-pub const PHASE: usize = 7;
-pub const ANSWER: usize = 11;
-pub const NUMBERS: [(usize, u32); 3] = [(KIND, 2), (PHASE, 8), (ANSWER, 6)];
+pub const PHASE: usize = 9;
+pub const ANSWER: usize = 13;
+pub const NUMBERS: [(usize, u32); 3] = [(KIND, GREATEST_KIND), (PHASE, 9), (ANSWER, 7)];
+pub const GREATEST_KIND: u32 = 3;
 // Other words of a process.
-pub const LEVEL: usize = 8;
-pub const PRED: usize = 9;
-// The halves of a key, low and high, in a process and in a node; the links of a node.
-const KEY_OF_PROCESS: [usize; 2] = [1, 2];
+pub const LEVEL: usize = 10;
+pub const PRED: usize = 11;
+pub const EFFECT: usize = 14;
+const PRED_OF_LEVEL_0: usize = 15;
+// The halves of a key, low and high, in a process (its call's own and a scan's last) and in a node; a node's links and
+// the place of its newest version.
+pub const KEY_OF_PROCESS: [usize; 2] = [1, 2];
+pub const LAST_OF_PROCESS: [usize; 2] = [3, 4];
 pub const KEY_OF_NODE: [usize; 2] = [0, 3];
 const NEXT: usize = 4;
+pub const NEWEST: usize = 1;
 
 #[derive(Clone, Copy, Debug, PartialEq, Eq)]
 pub enum Part {
@@ -69,9 +75,9 @@ impl Words {
         self.state_word((process as usize).saturating_mul(PROCESS).saturating_add(HEAD + word))
     }
 
-    /// The key of a process's call, 0 where there is none.
-    pub fn process_key(&self, process: u32) -> u64 {
-        let [low, high] = KEY_OF_PROCESS.map(|word| self.process_word(process, word));
+    /// A key of a process, by the words of its halves; 0 where there is none.
+    pub fn process_key(&self, process: u32, halves: [usize; 2]) -> u64 {
+        let [low, high] = halves.map(|word| self.process_word(process, word));
         key_of_halves(low, high)
     }
 
@@ -91,8 +97,26 @@ impl Words {
         self.node_word(node, NEXT + level.min(5) as usize)
     }
 
+    /// Sets the place of a node's newest version, if the table has such a node.
+    pub fn set_newest(&mut self, node: u32, place: u32) {
+        if let Some(word) = self.part_mut(Part::Nodes).get_mut(node as usize * 16 + NEWEST) {
+            *word = place;
+        }
+    }
+
     pub fn is_running(&self, process: u32) -> bool {
         self.process_word(process, KIND) != 0
+    }
+
+    /// Is this a scan that follows?
+    pub fn follows(&self, process: u32) -> bool {
+        let [kind, phase] = [KIND, PHASE].map(|word| self.process_word(process, word));
+        kind == Kind::Scan as u32 && phase == Phase::Follow as u32
+    }
+
+    /// Is this a scan at the end of its walk? It is often left there, so that keys are made between p and its first.
+    pub fn lingers(&self, process: u32) -> bool {
+        self.follows(process) && self.process_word(process, PRED) == self.process_word(process, PRED_OF_LEVEL_0)
     }
 }
 

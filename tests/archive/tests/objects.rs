@@ -51,8 +51,11 @@ fn every_slip_is_told() {
         (Slip::ShortLengths, "number returned"),
         (Slip::RefusedOpenKeeps, "state"),
         (Slip::Word(Part::State, 0), "state"),
-        (Slip::Word(Part::State, 160), "state"),
+        (Slip::Word(Part::State, 176), "state"),
         (Slip::HalvesSwapped, "state"),
+        (Slip::LastLost, "number returned"),
+        (Slip::LastSwapped, "state"),
+        (Slip::ShownSwapped, "answer"),
         (Slip::ShortKeys, "number returned"),
         (Slip::Word(Part::Nodes, 31), "node table"),
         (Slip::Word(Part::Versions, 5), "reading table"),
@@ -73,7 +76,7 @@ fn every_slip_is_told() {
 
 #[test]
 fn every_broken_model_is_told() {
-    for slip in broken::Slip::SEEN.into_iter().chain(broken::Slip::UNSEEN) {
+    for slip in broken::Slip::all() {
         SLIP.set(Slip::Model(slip));
         let mut run = Run::new(&TWIN);
         let failure = (0..300).find_map(|seed| history(&mut run, seed, false).err());

@@ -125,6 +125,7 @@ impl Writer {
         match call(&mut self.random, pool) {
             Call::Put { key, value, timestamp, draw } => self.put(process, key, value, timestamp, draw),
             Call::Get { key } => self.get(process, key),
+            Call::Scan { .. } => unreachable!("no command starts a scan"),
         }
     }
 

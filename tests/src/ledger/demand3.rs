@@ -1,10 +1,13 @@
-//! Demand 3 held literally against one whole list ("The lists of demand 3").
+//! Demand 3 held literally against one whole list ("The lists of demand 3"), with the sweeps of document 02.
 //!
 //! The checker sees what a caller sees: the starts, steps and looks with their answers, then the statuses, the
 //! tally, the counts and an inspection at the end. It knows nothing of the store but the ledger.
 
+mod scans;
+
 use super::{Map, Outcome};
-use crate::model::{lawful_key, Answer, Call, Done, Kind, Refusal, Status, Step, Verdict, COUNTS};
+use crate::model::{Answer, Call, Done, Kind, Refusal, Status, Step, Verdict, COUNTS};
+use scans::Shown;
 use std::fmt;
 
 /// The numbers of an accepted opening.
@@ -43,7 +46,9 @@ pub struct History {
     pub ending: Ending,
 }
 
-/// What an objection is about. `Refusal` is strictly demand 2's: a refusal other than the one due.
+/// What an objection is about. `Refusal` is strictly demand 2's: a refusal other than the one due. Of scans: `Shown`, a
+/// version that was not its key's newest, or one shown by another call; `Span`, a key outside the span; `Rise`, a key
+/// not above the one before; `Once`, a key not shown as often as it must be.
 #[derive(Clone, Copy, Debug, PartialEq, Eq)]
 pub enum Aspect {
     Tick,
@@ -57,6 +62,10 @@ pub enum Aspect {
     Damage,
     Unsound,
     Refusal,
+    Shown,
+    Span,
+    Rise,
+    Once,
 }
 
 #[derive(Clone, Debug, PartialEq, Eq)]
@@ -81,12 +90,38 @@ struct Record {
     done: Option<Done>,
     /// Where it took effect, if it did.
     effect: Option<u32>,
+    /// What its steps showed.
+    shown: Vec<Shown>,
+    /// The keys of a scan's span that the ledger held at its start.
+    held: Vec<u64>,
 }
 
-/// A look and the count of events before it.
-struct Sight {
-    entry: usize,
+impl Record {
+    fn new(process: u32, call: Call, start: u32) -> Record {
+        Record { process, call, start, steps: vec![], done: None, effect: None, shown: vec![], held: vec![] }
+    }
+
+    /// An effect tick is that of a step of the call's process, after its start and not after its finish; a scan's is 0.
+    fn has_stray_effect(&self) -> bool {
+        match (self.call, self.effect) {
+            (_, None) => false,
+            (Call::Scan { .. }, Some(tick)) => tick != 0,
+            (_, Some(tick)) => !self.steps.contains(&tick),
+        }
+    }
+}
+
+/// What is held against the ledger as it stood behind so many events.
+struct Moment {
     events: u32,
+    sight: Sight,
+}
+
+/// Entries and calls by their places in the list and in `records`; of a call, the place of what it showed.
+enum Sight {
+    Look { entry: usize },
+    ScanStart { call: usize },
+    Shown { call: usize, place: usize },
 }
 
 struct Checker<'a> {
@@ -95,7 +130,9 @@ struct Checker<'a> {
     records: Vec<Record>,
     /// For each process its running call, as a place in `records`.
     running: Vec<Option<usize>>,
-    sights: Vec<Sight>,
+    /// Accepted starts.
+    starts: usize,
+    moments: Vec<Moment>,
     objections: Vec<Objection>,
 }
 
@@ -106,7 +143,8 @@ pub fn check(history: &History) -> Vec<Objection> {
         events: 0,
         records: Vec::new(),
         running: vec![None; history.opening.processes as usize],
-        sights: Vec::new(),
+        starts: 0,
+        moments: Vec::new(),
         objections: Vec::new(),
     };
     for (at, entry) in history.entries.iter().enumerate() {
@@ -115,6 +153,7 @@ pub fn check(history: &History) -> Vec<Objection> {
     checker.running_calls();
     checker.effects();
     checker.ledger();
+    checker.scans();
     checker.tally();
     checker.inspection();
     checker.objections
@@ -131,9 +170,13 @@ impl Checker<'_> {
             Entry::Step { process, answer } => self.step(at, process, answer),
             Entry::Look { answer, .. } => {
                 self.no_damage(at, answer.err());
-                self.sights.push(Sight { entry: at, events: self.events });
+                self.sees(Sight::Look { entry: at });
             }
         }
+    }
+
+    fn sees(&mut self, sight: Sight) {
+        self.moments.push(Moment { events: self.events, sight });
     }
 
     fn no_damage(&mut self, at: usize, refusal: Option<Refusal>) {
@@ -165,8 +208,8 @@ impl Checker<'_> {
     fn start(&mut self, at: usize, process: u32, call: Call, answer: Result<u32, Refusal>) {
         let due = if process >= self.history.opening.processes {
             Some(Refusal::NoSuchProcess)
-        } else if !lawful_key(call.key()) {
-            Some(Refusal::KeyOutOfRange)
+        } else if let Some(wrong) = call.wrong_keys() {
+            Some(wrong)
         } else if self.running[process as usize].is_some() {
             Some(Refusal::Busy)
         } else {
@@ -175,9 +218,13 @@ impl Checker<'_> {
         self.refusal(at, answer.err(), due);
         let Ok(tick) = answer else { return };
         self.event(at, tick);
+        self.starts += 1;
         if let Some(running) = self.running.get_mut(process as usize) {
             *running = Some(self.records.len());
-            self.records.push(Record { process, call, start: self.events, steps: vec![], done: None, effect: None });
+            if call.kind() == Kind::Scan {
+                self.sees(Sight::ScanStart { call: self.records.len() });
+            }
+            self.records.push(Record::new(process, call, self.events));
         }
     }
 
@@ -193,9 +240,13 @@ impl Checker<'_> {
         self.event(at, step.tick());
         let Some(Some(index)) = running else { return };
         self.records[index].steps.push(self.events);
-        if let Step::Done(done) = step {
-            self.finish(at, index, done);
-            self.running[process as usize] = None;
+        match step {
+            Step::On(_) | Step::Wait(_) => {}
+            Step::Shown { key, value, timestamp, .. } => self.shows(index, Shown { key, value, timestamp }),
+            Step::Done(done) => {
+                self.finish(at, index, done);
+                self.running[process as usize] = None;
+            }
         }
     }
 
@@ -233,14 +284,24 @@ impl Checker<'_> {
                 self.object(Aspect::Running, format!("process {process} shows {status:?}, the list has {due:?}"));
             }
         }
+        self.no_call_lost();
     }
 
-    /// An effect tick is that of a step of the call's process, after its start and not after its finish.
+    /// Accepted starts are finished calls and running calls, scans among them.
+    fn no_call_lost(&mut self) {
+        let finished = self.records.iter().filter(|record| record.done.is_some()).count();
+        let statuses = self.history.ending.statuses.iter();
+        let running = statuses.filter(|status| matches!(status, Ok(Status::Running { .. }))).count();
+        if self.starts != finished + running {
+            self.object(Aspect::Running, format!("{} starts, {finished} finished, {running} running", self.starts));
+        }
+    }
+
     fn effects(&mut self) {
         let stray: Vec<String> = self
             .records
             .iter()
-            .filter(|record| record.effect.is_some_and(|tick| !record.steps.contains(&tick)))
+            .filter(|record| record.has_stray_effect())
             .map(|record| format!("{:?} of process {}: effect at {:?}", record.call, record.process, record.effect))
             .collect();
         for text in stray {
@@ -248,7 +309,7 @@ impl Checker<'_> {
         }
     }
 
-    /// Feeds the ledger in the order of the effects; each look meets the effects of the events before it.
+    /// Feeds the ledger in the order of the effects; each moment meets the effects of the events before it.
     fn ledger(&mut self) {
         let Opening { keys, versions, .. } = self.history.opening;
         let mut map = Map::new(keys, versions);
@@ -256,12 +317,15 @@ impl Checker<'_> {
             (0..self.records.len()).filter_map(|index| Some((self.records[index].effect?, index))).collect();
         order.sort_unstable();
         let mut order = order.into_iter().peekable();
-        for place in 0..self.sights.len() {
-            let Sight { entry, events } = self.sights[place];
+        for Moment { events, sight } in std::mem::take(&mut self.moments) {
             while let Some((_, index)) = order.next_if(|&(tick, _)| tick <= events) {
                 self.fed(&mut map, index);
             }
-            self.sight(&map, entry);
+            match sight {
+                Sight::Look { entry } => self.look(&map, entry),
+                Sight::ScanStart { call } => self.scan_start(&map, call),
+                Sight::Shown { call, place } => self.newest(&map, call, place),
+            }
         }
         for (_, index) in order {
             self.fed(&mut map, index);
@@ -275,7 +339,7 @@ impl Checker<'_> {
 
     /// One call takes effect in the ledger; a finished one must have its answer.
     fn fed(&mut self, map: &mut Map, index: usize) {
-        let due = map.apply(self.records[index].call);
+        let Some(due) = map.apply(self.records[index].call) else { return };
         let Some(Done { answer, value, timestamp, .. }) = self.records[index].done else { return };
         if due != (Outcome { answer, value, timestamp }) {
             let record = &self.records[index];
@@ -284,7 +348,7 @@ impl Checker<'_> {
         }
     }
 
-    fn sight(&mut self, map: &Map, entry: usize) {
+    fn look(&mut self, map: &Map, entry: usize) {
         let Entry::Look { key, back, answer } = self.history.entries[entry] else { return };
         let due = map.look(key, back);
         if answer != due {
@@ -292,11 +356,12 @@ impl Checker<'_> {
         }
     }
 
-    /// Each count equals the finished calls with its answer.
+    /// Each count equals the finished calls with its answer. No scan is counted.
     fn tally(&mut self) {
         let mut due = [0; COUNTS];
-        for done in self.records.iter().filter_map(|record| record.done) {
-            due[done.answer as usize] += 1;
+        let counted = self.records.iter().filter(|record| record.call.kind() != Kind::Scan);
+        for place in counted.filter_map(|record| record.done?.answer.place()) {
+            due[place] += 1;
         }
         let given = &self.history.ending.tally;
         if given[..] != due {

@@ -5,7 +5,7 @@
 //! objections hang on, so two histories with equal stores and equal watches have the same future.
 
 use super::{Map, Opening, Outcome};
-use crate::model::{Call, Done, Refusal, Status, Step, Store, Verdict, COUNTS};
+use crate::model::{Answer, Call, Done, Refusal, Status, Step, Store, Verdict, COUNTS};
 
 #[derive(Clone, Debug, PartialEq, Eq, Hash)]
 struct Running {
@@ -13,6 +13,9 @@ struct Running {
     start: u32,
     /// Tick of the effect and the ledger's answer to it.
     effect: Option<(u32, Outcome)>,
+    /// Of a scan: the keys held at its start that it has yet to show, and the last one shown (0 before).
+    due: Vec<u64>,
+    shown: u64,
 }
 
 #[derive(Clone, Debug, PartialEq, Eq, Hash)]
@@ -85,7 +88,11 @@ impl Watch {
     pub fn start(&mut self, process: u32, call: Call, answer: Result<u32, Refusal>) -> Objected {
         let tick = answer.map_err(|refusal| format!("start of {call:?} refused {}", refusal.number()))?;
         self.event(tick)?;
-        self.running[process as usize] = Some(Running { call, start: tick, effect: None });
+        let due = match call {
+            Call::Scan { first, last } => self.map.held(first, last),
+            _ => vec![],
+        };
+        self.running[process as usize] = Some(Running { call, start: tick, effect: None, due, shown: 0 });
         Ok(())
     }
 
@@ -94,33 +101,51 @@ impl Watch {
         let step = answer.map_err(|refusal| format!("step of {process} refused {}", refusal.number()))?;
         self.event(step.tick())?;
         let running = self.running[process as usize].take().ok_or("a step without a call")?;
-        match step {
-            Step::Done(done) => self.done(running, done)?,
-            Step::Wait(_) => self.running[process as usize] = Some(running),
-            Step::On(tick) => {
-                let shown = matches!(after, Ok(Status::Running { effect, .. }) if effect == tick);
-                must(!shown || running.effect.is_none(), || format!("a second effect of {:?}", running.call))?;
-                let effect = if shown { Some((tick, self.map.apply(running.call))) } else { running.effect };
-                self.running[process as usize] = Some(Running { effect, ..running });
+        let running = match step {
+            Step::Done(done) => {
+                self.done(running, done)?;
+                None
             }
-        }
+            Step::Wait(_) => Some(running),
+            Step::Shown { key, value, timestamp, .. } => Some(self.shown(running, key, (value, timestamp))?),
+            Step::On(tick) if matches!(after, Ok(Status::Running { effect, .. }) if effect == tick) => {
+                Some(self.effect(running, tick)?)
+            }
+            Step::On(_) => Some(running),
+        };
+        self.running[process as usize] = running;
         self.status(process, after)
     }
 
+    /// A running call takes effect, as no scan does.
+    fn effect(&mut self, running: Running, tick: u32) -> Result<Running, String> {
+        must(running.effect.is_none(), || format!("a second effect of {:?}", running.call))?;
+        let outcome = self.map.apply(running.call).ok_or_else(|| format!("an effect of {:?}", running.call))?;
+        Ok(Running { effect: Some((tick, outcome)), ..running })
+    }
+
+    /// A scan shows a key of its span, above the one before, with its newest version.
+    fn shown(&self, mut running: Running, key: u64, version: (u32, u32)) -> Result<Running, String> {
+        let spans = matches!(running.call, Call::Scan { first, last } if (first..=last).contains(&key));
+        let newest = self.map.get(key) == Some(version);
+        must(spans && newest && key > running.shown, || format!("{running:?} showed {key} {version:?}"))?;
+        running.due.retain(|&due| due != key);
+        Ok(Running { shown: key, ..running })
+    }
+
     fn done(&mut self, running: Running, done: Done) -> Objected {
-        let Running { call, start, effect } = running;
-        let (effect, due) = effect.unwrap_or_else(|| (self.events, self.map.apply(call)));
-        self.finished[done.answer as usize] += 1;
-        let told = Done {
-            kind: call.kind(),
-            answer: due.answer,
-            value: due.value,
-            timestamp: due.timestamp,
-            start,
-            effect,
-            finish: self.events,
-        };
-        must(done == told, || format!("{call:?} ended as {done:?}, due is {told:?}"))
+        let Running { call, start, effect, .. } = running;
+        let now = self.events;
+        let taken = effect.or_else(|| self.map.apply(call).map(|outcome| (now, outcome)));
+        let swept = (0, Outcome { answer: Answer::Swept, value: 0, timestamp: 0 });
+        let (effect, Outcome { answer, value, timestamp }) = taken.unwrap_or(swept);
+        let told = Done { kind: call.kind(), answer, value, timestamp, start, effect, finish: now };
+        must(done == told, || format!("{call:?} ended as {done:?}, due is {told:?}"))?;
+        must(running.due.is_empty(), || format!("{call:?} did not show {:?}", running.due))?;
+        if let Some(place) = answer.place() {
+            self.finished[place] += 1;
+        }
+        Ok(())
     }
 
     /// The status of one process, now.

@@ -20,7 +20,7 @@ impl Store {
     /// Value and timestamp `back` places behind a key's newest. Refusals 10, 6, 12, 11, 13.
     pub fn look(&self, key: u64, back: u32) -> Result<(u32, u32), Refusal> {
         self.check_lent()?;
-        check_key(key)?;
+        require(lawful_key(key), Refusal::KeyOutOfRange)?;
         let node = (1..=self.state.nodes).find(|&node| self.key(node) == key).ok_or(Refusal::NoSuchKey)?;
         let mut place = self.newest_in_use(node)?;
         for _ in 0..back {
@@ -29,7 +29,7 @@ impl Store {
             require(prev != 0, Refusal::FewerVersions)?;
             place = prev;
         }
-        Ok((self.version_word(place, VALUE), self.version_word(place, TIMESTAMP)))
+        Ok(self.version(place))
     }
 
     /// Refusals 10 (the state alone), 5.

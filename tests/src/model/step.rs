@@ -1,5 +1,5 @@
-//! One step of a process: document 01, "Steps of a station". Each phase is one function; it makes all its tests
-//! (refusal 11) before its first write.
+//! One step of a process: document 01, "Steps of a station", and document 02, the sweep. Each phase is one function; it
+//! makes all its tests (refusal 11) before its first write.
 
 use super::*;
 
@@ -8,19 +8,26 @@ use super::*;
 pub enum Step {
     On(u32),
     Wait(u32),
+    /// A scan shows a key and its newest version.
+    Shown {
+        tick: u32,
+        key: u64,
+        value: u32,
+        timestamp: u32,
+    },
     Done(Done),
 }
 
 impl Step {
     pub fn tick(self) -> u32 {
         match self {
-            Step::On(tick) | Step::Wait(tick) => tick,
+            Step::On(tick) | Step::Wait(tick) | Step::Shown { tick, .. } => tick,
             Step::Done(done) => done.finish,
         }
     }
 }
 
-/// A finished call. Value and timestamp are a put's own, those found by a get, or 0 and 0.
+/// A finished call. Value and timestamp are a put's own, those found by a get, or 0 and 0. A scan takes no effect: 0.
 #[derive(Clone, Copy, Debug, PartialEq, Eq, Hash)]
 pub struct Done {
     pub kind: Kind,
@@ -36,6 +43,7 @@ pub struct Done {
 enum Turn {
     On,
     Wait,
+    Show { key: u64, value: u32, timestamp: u32 },
     Finish { answer: Answer, value: u32, timestamp: u32, effect: u32 },
 }
 
@@ -59,36 +67,45 @@ impl Store {
             Phase::Make => self.make(&mut call, tick),
             Phase::Link => self.link(&mut call),
             Phase::Release => self.release(&mut call),
+            Phase::Follow => self.follow(&mut call),
         }?;
         self.state.events = tick;
         self.state.process[index] = call;
         Ok(match turn {
             Turn::On => Step::On(tick),
             Turn::Wait => Step::Wait(tick),
+            Turn::Show { key, value, timestamp } => Step::Shown { tick, key, value, timestamp },
             Turn::Finish { answer, value, timestamp, effect } => {
                 self.state.process[index] = Process::IDLE;
-                let count = &mut self.tally[answer as usize];
-                *count = count.saturating_add(1);
+                self.count(answer);
                 Step::Done(Done { kind: call.kind, answer, value, timestamp, start: call.start, effect, finish: tick })
             }
         })
     }
 
-    /// The part of refusal 11 that holds at any step.
-    fn check_call(&self, call: &Process) -> Result<(), Refusal> {
-        let lawful = match call.kind {
-            Kind::Put => {
-                let answered = call.phase == Phase::Release || call.effect != 0;
-                call.phase != Phase::Read && (!answered || call.answer.of_put())
-            }
-            _ => matches!(call.phase, Phase::Walk | Phase::Read) && call.effect == 0,
-        };
-        require(lawful && call.level <= TOP_LEVEL && call.pred <= self.state.nodes, Refusal::AlteredMemory)
+    fn count(&mut self, answer: Answer) {
+        if let Some(place) = answer.place() {
+            self.tally[place] = self.tally[place].saturating_add(1);
+        }
     }
 
-    /// The link of p at level L, if it leads to a node in use or is the end.
-    fn next_in_use(&self, call: &Process) -> Result<u32, Refusal> {
-        let next = self.next(call.pred, call.level);
+    /// The part of refusal 11 that holds at any step.
+    fn check_call(&self, call: &Process) -> Result<(), Refusal> {
+        let (in_place, effect) = match call.kind {
+            Kind::Put => {
+                let answered = call.phase == Phase::Release || call.effect != 0;
+                (!matches!(call.phase, Phase::Read | Phase::Follow), !answered || call.answer.of_put())
+            }
+            Kind::Scan => (matches!(call.phase, Phase::Walk | Phase::Follow), call.effect == 0),
+            Kind::Get | Kind::Idle => (matches!(call.phase, Phase::Walk | Phase::Read), call.effect == 0),
+        };
+        let lawful = in_place && effect && call.level <= TOP_LEVEL && call.pred <= self.state.nodes;
+        require(lawful, Refusal::AlteredMemory)
+    }
+
+    /// The link of p at a level, if it leads to a node in use or is the end.
+    fn next_in_use(&self, call: &Process, level: u32) -> Result<u32, Refusal> {
+        let next = self.next(call.pred, level);
         require(next <= self.state.nodes, Refusal::AlteredMemory)?;
         Ok(next)
     }
@@ -103,7 +120,7 @@ impl Store {
     }
 
     fn walk(&self, call: &mut Process, tick: u32) -> Result<Turn, Refusal> {
-        let next = self.next_in_use(call)?;
+        let next = self.next_in_use(call, call.level)?;
         if self.before(next, call) {
             call.pred = next;
             return Ok(Turn::On);
@@ -113,6 +130,8 @@ impl Store {
             call.level -= 1;
         } else if call.kind == Kind::Put {
             call.phase = Phase::Seek;
+        } else if call.kind == Kind::Scan {
+            call.phase = Phase::Follow;
         } else if self.leads_to_key(next, call) {
             call.pred = next;
             call.phase = Phase::Read;
@@ -123,17 +142,28 @@ impl Store {
     }
 
     fn read(&self, call: &Process, tick: u32) -> Result<Turn, Refusal> {
-        let newest = self.newest_in_use(call.pred)?;
-        Ok(Turn::Finish {
-            answer: Answer::Found,
-            value: self.version_word(newest, VALUE),
-            timestamp: self.version_word(newest, TIMESTAMP),
-            effect: tick,
-        })
+        let (value, timestamp) = self.version(self.newest_in_use(call.pred)?);
+        Ok(Turn::Finish { answer: Answer::Found, value, timestamp, effect: tick })
+    }
+
+    /// Along level 0, whatever the level at hand. The last key is compared before the first.
+    fn follow(&self, call: &mut Process) -> Result<Turn, Refusal> {
+        let next = self.next_in_use(call, 0)?;
+        if next == 0 || self.key(next) > call.last {
+            return Ok(Turn::Finish { answer: Answer::Swept, value: 0, timestamp: 0, effect: 0 });
+        }
+        let turn = if self.before(next, call) {
+            Turn::On
+        } else {
+            let (value, timestamp) = self.version(self.newest_in_use(next)?);
+            Turn::Show { key: self.key(next), value, timestamp }
+        };
+        call.pred = next;
+        Ok(turn)
     }
 
     fn seek(&self, call: &mut Process) -> Result<Turn, Refusal> {
-        let next = self.next_in_use(call)?;
+        let next = self.next_in_use(call, call.level)?;
         if self.before(next, call) {
             call.pred = next;
         } else {
@@ -153,7 +183,7 @@ impl Store {
 
     /// The link is read again, now under the lock.
     fn check(&mut self, call: &mut Process) -> Result<Turn, Refusal> {
-        let next = self.next_in_use(call)?;
+        let next = self.next_in_use(call, call.level)?;
         if self.before(next, call) {
             self.set_lock(call.pred, call.level, 0);
             call.pred = next;

@@ -1,31 +1,33 @@
 //! The state as a row of words, for a comparison with another implementation through a C interface.
 //!
-//! Words 0 to 7: opened (0 or 1), processes, limit, events, node words, version words, nodes, versions. Then 19 words
-//! for each of the 8 processes: kind, low and high half of the key, value, timestamp, top, start, phase, level, pred,
-//! made, answer, effect and the six remembered nodes. Kind, phase and answer are the numbers of their enums, in the
-//! order of declaration.
+//! Words 0 to 7: opened (0 or 1), processes, limit, events, node words, version words, nodes, versions. Then 21 words
+//! for each of the 8 processes: kind, low and high half of the key and of the last key, value, timestamp, top, start,
+//! phase, level, pred, made, answer, effect and the six remembered nodes. Kind, phase and answer are the numbers of
+//! their enums, in the order of declaration.
 
 use super::*;
 
 const HEAD: usize = 8;
-const PROCESS_WORDS: usize = 13 + LEVELS;
+const PROCESS_WORDS: usize = 15 + LEVELS;
 pub const STATE_WORDS: usize = HEAD + PROCESSES * PROCESS_WORDS;
 
-const KINDS: [Kind; 3] = [Kind::Idle, Kind::Put, Kind::Get];
-pub(crate) const PHASES: [Phase; 9] = [
-    Phase::Walk,
-    Phase::Read,
-    Phase::Seek,
-    Phase::Lock,
-    Phase::Check,
-    Phase::Update,
-    Phase::Make,
-    Phase::Link,
-    Phase::Release,
-];
+impl Kind {
+    pub const ALL: [Kind; 4] = [Kind::Idle, Kind::Put, Kind::Get, Kind::Scan];
+}
 
 impl Phase {
-    pub const ALL: [Phase; 9] = PHASES;
+    pub const ALL: [Phase; 10] = [
+        Phase::Walk,
+        Phase::Read,
+        Phase::Seek,
+        Phase::Lock,
+        Phase::Check,
+        Phase::Update,
+        Phase::Make,
+        Phase::Link,
+        Phase::Release,
+        Phase::Follow,
+    ];
 }
 
 impl State {
@@ -63,7 +65,8 @@ impl State {
 
 impl Process {
     fn write_words(&self, words: &mut Vec<u32>) {
-        words.extend([self.kind as u32, low_half(self.key), high_half(self.key)]);
+        words.push(self.kind as u32);
+        words.extend([self.key, self.last].iter().flat_map(|&key| [low_half(key), high_half(key)]));
         words.extend([self.value, self.timestamp, self.top, self.start]);
         words.extend([self.phase as u32, self.level, self.pred, self.made, self.answer as u32, self.effect]);
         words.extend(self.preds);
@@ -71,19 +74,20 @@ impl Process {
 
     fn from_words(words: &[u32]) -> Option<Process> {
         Some(Process {
-            kind: *KINDS.get(words[0] as usize)?,
+            kind: *Kind::ALL.get(words[0] as usize)?,
             key: key_of_halves(words[1], words[2]),
-            value: words[3],
-            timestamp: words[4],
-            top: words[5],
-            start: words[6],
-            phase: *PHASES.get(words[7] as usize)?,
-            level: words[8],
-            pred: words[9],
-            made: words[10],
-            answer: *Answer::ALL.get(words[11] as usize)?,
-            effect: words[12],
-            preds: words[13..].try_into().ok()?,
+            last: key_of_halves(words[3], words[4]),
+            value: words[5],
+            timestamp: words[6],
+            top: words[7],
+            start: words[8],
+            phase: *Phase::ALL.get(words[9] as usize)?,
+            level: words[10],
+            pred: words[11],
+            made: words[12],
+            answer: *Answer::ALL.get(words[13] as usize)?,
+            effect: words[14],
+            preds: words[15..].try_into().ok()?,
         })
     }
 }

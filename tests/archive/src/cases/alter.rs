@@ -1,7 +1,7 @@
 //! Alterations of lent words.
 
 use crate::words::*;
-use store_tests::model::MAX_LIMIT;
+use store_tests::model::{high_half, low_half, Kind, Phase, MAX_LIMIT};
 use store_tests::random::Random;
 
 /// Numbers at the edges of everything that a word can mean.
@@ -108,6 +108,29 @@ fn alter_key(random: &mut Random, words: &mut Words) {
     let half = random.pick(&KEY_OF_NODE);
     let to = if random.once_in(2) { words.node_word(other, half) } else { random.pick(&EDGES) };
     words.part_mut(Part::Nodes)[node as usize * 16 + half] = to;
+}
+
+/// Gives a process a scan that follows, from a node in use and over a span of keys of nodes or between them, mostly in
+/// order; at times the newest reading of the node ahead is lost.
+pub fn let_follow(random: &mut Random, words: &mut Words, process: u32) {
+    let nodes = words.state_word(7).saturating_add(1);
+    let mut key = || words.node_key(random.below(nodes)).wrapping_add(u64::from(random.below(2)));
+    let mut span = [key(), key()];
+    if !random.once_in(4) {
+        span.sort_unstable();
+    }
+    let pred = random.below(nodes);
+    if random.once_in(4) {
+        let lost = random.pick(&[0, words.state_word(8).saturating_add(1)]);
+        words.set_newest(words.next(pred, 0), lost);
+    }
+    let level = if random.once_in(2) { 0 } else { random.below(6) };
+    let call = &mut words.part_mut(Part::State)[words_of(process as usize)];
+    (call[KIND], call[PHASE], call[EFFECT]) = (Kind::Scan as u32, Phase::Follow as u32, 0);
+    (call[LEVEL], call[PRED]) = (level, pred);
+    for ([low, high], key) in [KEY_OF_PROCESS, LAST_OF_PROCESS].into_iter().zip(span) {
+        (call[low], call[high]) = (low_half(key), high_half(key));
+    }
 }
 
 /// Locks that calls left are no faults then; an altered one may go with them.

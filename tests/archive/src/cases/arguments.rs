@@ -3,7 +3,7 @@
 use crate::words::*;
 use store_tests::damage::Operation;
 use store_tests::generate::{near, EDGE_KEYS};
-use store_tests::model::{Call, MAX_LIMIT};
+use store_tests::model::{Call, FIRST_KEY, LAST_KEY, MAX_LIMIT};
 use store_tests::random::Random;
 
 const PROCESSES: [u32; 12] = [0, 1, 6, 7, 8, 9, 255, 256, 1 << 16, 1 << 29, 1 << 31, u32::MAX];
@@ -11,12 +11,13 @@ const BACKS: [u32; 9] = [4, 14, 4_094, 4_095, 4_096, 65_535, 1 << 16, 1 << 31, u
 const DRAWS: [u16; 10] = [0, 1, 2, 16, 32, 64, 128, 1 << 14, 1 << 15, u16::MAX];
 const LIMITS: [u32; 7] = [0, 1, 2, MAX_LIMIT - 1, MAX_LIMIT, MAX_LIMIT + 1, u32::MAX];
 
-/// The seven calls, and how often each is made where nothing else decides.
+/// The calls, and how often each is made where nothing else decides.
 #[derive(Clone, Copy, Debug, PartialEq, Eq)]
 pub enum Asked {
     Open,
     Put,
     Get,
+    Scan,
     Step,
     Look,
     Inspect,
@@ -24,12 +25,12 @@ pub enum Asked {
 }
 
 impl Asked {
-    pub const ALL: [Asked; 7] =
-        [Asked::Open, Asked::Put, Asked::Get, Asked::Step, Asked::Look, Asked::Inspect, Asked::Standing];
-    const SHARES: [usize; 7] = [2, 3, 2, 9, 4, 3, 2];
+    pub const ALL: [Asked; 8] =
+        [Asked::Open, Asked::Put, Asked::Get, Asked::Scan, Asked::Step, Asked::Look, Asked::Inspect, Asked::Standing];
+    const SHARES: [u32; 8] = [2, 3, 2, 2, 9, 4, 3, 2];
 
     fn any(random: &mut Random) -> Asked {
-        let mut place = random.below(25) as usize;
+        let mut place = random.below(Asked::SHARES.iter().sum());
         for (asked, share) in Asked::ALL.into_iter().zip(Asked::SHARES) {
             if place < share {
                 return asked;
@@ -57,6 +58,10 @@ pub fn asking(asked: Asked, random: &mut Random, words: &Words, focus: Option<u3
         }
         Asked::Get => {
             let call = Call::Get { key: key(random, words) };
+            Operation::Start { process: process(random, words, focus), call }
+        }
+        Asked::Scan => {
+            let call = span(random, words);
             Operation::Start { process: process(random, words, focus), call }
         }
         Asked::Step => Operation::Step { process: process(random, words, focus) },
@@ -104,6 +109,20 @@ fn key(random: &mut Random, words: &Words) -> u64 {
         _ if last > 0 => words.node_key(random.within(1, last)),
         _ => random.below(8).into(),
     }
+}
+
+/// Two such keys, mostly the lesser one first; at times one of them is out of range.
+fn span(random: &mut Random, words: &Words) -> Call {
+    let (one, other) = (key(random, words), key(random, words));
+    let (low, high) = (one.min(other), one.max(other));
+    let outside = random.pick(&[FIRST_KEY - 1, LAST_KEY + 1]);
+    let (first, last) = match random.below(16) {
+        0 => (outside, other),
+        1 => (one, outside),
+        2..=4 => (one, other),
+        _ => (low, high),
+    };
+    Call::Scan { first, last }
 }
 
 fn back(random: &mut Random) -> u32 {

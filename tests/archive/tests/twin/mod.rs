@@ -4,7 +4,7 @@ use archive_tests::expected::{perform, unknown_beside, Outcome};
 use archive_tests::fence::{page_words, WIDE};
 use archive_tests::interface::Interface;
 use archive_tests::subject::answer_words;
-use archive_tests::words::{state_words, words_of, Part, Words, HEAD, LAYOUT, PROCESS, STATE};
+use archive_tests::words::*;
 use std::cell::Cell;
 use std::ptr::null_mut;
 use store_tests::broken::{self, Broken};
@@ -39,6 +39,12 @@ pub enum Slip {
     ShortKeys,
     /// A start writes the halves of its tray changed over.
     HalvesSwapped,
+    /// The last tray of a sweep is lost on its way in: it is the first.
+    LastLost,
+    /// A start of a sweep writes the halves of its last tray changed over.
+    LastSwapped,
+    /// A step that shows gives the halves of the tray changed over.
+    ShownSwapped,
     /// A step writes a word beside this part, where that is not a guard page.
     Beside(Part),
     /// A step reads the word on the guard page.
@@ -77,6 +83,9 @@ unsafe fn turn(lent: Lent, operation: Operation, answer: *mut u32) -> u32 {
             Outcome { words: Reply::Refused(Refusal::AlteredState).words(), flaw: None }
         }
         (Slip::ShortKeys, _) => perform(&mut words, wide, short(operation)),
+        (Slip::LastLost, Operation::Start { process, call: Call::Scan { first, .. } }) => {
+            perform(&mut words, wide, Operation::Start { process, call: Call::Scan { first, last: first } })
+        }
         _ => perform(&mut words, wide, operation),
     };
     spoil(slip, &before, &mut words, operation, &mut outcome);
@@ -107,15 +116,20 @@ fn spoil(slip: Slip, before: &Words, words: &mut Words, operation: Operation, ou
         }
         Slip::OthersMadeKnown if step && number == 0 => {
             let kinds = words.part_mut(Part::State)[HEAD..].iter_mut().step_by(PROCESS);
-            kinds.for_each(|kind| *kind = (*kind).min(2));
+            kinds.for_each(|kind| *kind = (*kind).min(GREATEST_KIND));
         }
-        Slip::HalvesSwapped if number == 0 => {
-            if let Operation::Start { process, .. } = operation {
-                words.part_mut(Part::State)[words_of(process as usize)].swap(1, 2);
-            }
-        }
+        Slip::HalvesSwapped if number == 0 => swap_halves(words, operation, KEY_OF_PROCESS),
+        Slip::LastSwapped if number == 0 => swap_halves(words, operation, LAST_OF_PROCESS),
+        Slip::ShownSwapped if step && number == 0 && outcome.words[1] == 3 => outcome.words.swap(3, 4),
         Slip::RefusedOpenKeeps if (1..5).contains(&number) => words.clone_from(before),
         _ => {}
+    }
+}
+
+/// Changes over two words of the process that a start gives a call.
+fn swap_halves(words: &mut Words, operation: Operation, [low, high]: [usize; 2]) {
+    if let Operation::Start { process, .. } = operation {
+        words.part_mut(Part::State)[words_of(process as usize)].swap(low, high);
     }
 }
 
@@ -149,13 +163,13 @@ fn at_guard(word: *mut u32) -> bool {
 /// The operation with trays of 32 bits.
 fn short(operation: Operation) -> Operation {
     let cut = |key| u64::from(low_half(key));
+    let cut_call = |call| match call {
+        Call::Put { key, value, timestamp, draw } => Call::Put { key: cut(key), value, timestamp, draw },
+        Call::Get { key } => Call::Get { key: cut(key) },
+        Call::Scan { first, last } => Call::Scan { first: cut(first), last: cut(last) },
+    };
     match operation {
-        Operation::Start { process, call: Call::Get { key } } => {
-            Operation::Start { process, call: Call::Get { key: cut(key) } }
-        }
-        Operation::Start { process, call: Call::Put { key, value, timestamp, draw } } => {
-            Operation::Start { process, call: Call::Put { key: cut(key), value, timestamp, draw } }
-        }
+        Operation::Start { process, call } => Operation::Start { process, call: cut_call(call) },
         Operation::Look { key, back } => Operation::Look { key: cut(key), back },
         other => other,
     }
@@ -252,6 +266,22 @@ unsafe extern "C" fn start_get(
     turn([(s, sw), (n as _, nw), (v as _, vw), NOT_LENT], Operation::Start { process, call }, tick)
 }
 
+unsafe extern "C" fn start_sweep(
+    s: *mut u32,
+    sw: usize,
+    n: *const u32,
+    nw: usize,
+    v: *const u32,
+    vw: usize,
+    process: u32,
+    first: u64,
+    last: u64,
+    tick: *mut u32,
+) -> u32 {
+    let call = Call::Scan { first, last };
+    turn([(s, sw), (n as _, nw), (v as _, vw), NOT_LENT], Operation::Start { process, call }, tick)
+}
+
 unsafe extern "C" fn step(
     s: *mut u32,
     sw: usize,
@@ -306,6 +336,7 @@ pub const TWIN: Interface = Interface {
     open,
     start_put,
     start_get,
+    start_sweep,
     step,
     look,
     inspect,

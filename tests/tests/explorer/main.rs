@@ -1,6 +1,8 @@
 //! All interleavings of small stores: at every point the model keeps demand 3, is sound when idle and refuses
 //! exactly what it must. Draws 1, 2 and 4 give the tops 0, 1 and 2.
 
+mod scans;
+
 use store_tests::explore::{explore, Memo, Report, Scope};
 use store_tests::ledger::Opening;
 use store_tests::model::{Call, MAX_LIMIT};
@@ -25,7 +27,12 @@ fn with_ticks(keys: u32, versions: u32, limit: u32, scripts: &[&[Call]]) {
     let opening = Opening { keys, versions, processes: scripts.len() as u32, limit };
     let scripts = scripts.iter().map(|script| script.to_vec()).collect();
     let report = run(&Scope { opening, memo: Memo::Full, first: vec![], scripts });
-    println!("limit {limit}: {report:?}");
+    println!("limit {limit}: {}", told(&report));
+}
+
+fn told(report: &Report) -> String {
+    let Report { points, arrivals, ends, latest, .. } = report;
+    format!("{points} points, {arrivals} arrivals, {ends} ends, latest event {latest}")
 }
 
 fn scope(keys: u32, versions: u32, first: &[Call], scripts: &[&[Call]]) -> Scope {
@@ -78,7 +85,7 @@ fn full_tables() {
         let one = [put(5, 2, 2), put(3, 1, 1)];
         let other = [put(3, 2, 4), put(5, 3, 1), get(3)];
         let report = run(&scope(keys, versions, &[], &[&one, &other]));
-        println!("K {keys} V {versions}: {report:?}");
+        println!("K {keys} V {versions}: {}", told(&report));
     }
 }
 
@@ -90,7 +97,7 @@ fn three_processes_on_an_empty_store() {
         [put(5, 2, 4), put(5, 2, 1), get(5)],
     ];
     for [one, two, three] in triples {
-        println!("{:?}", run(&scope(3, 4, &[], &[&[one], &[two], &[three]])));
+        println!("{}", told(&run(&scope(3, 4, &[], &[&[one], &[two], &[three]]))));
     }
 }
 
@@ -114,7 +121,8 @@ fn every_triple_of_some_calls() {
 #[test]
 fn three_processes_on_a_filled_store() {
     let first = [put(5, 2, 2)];
-    println!("{:?}", run(&scope(4, 5, &first, &[&[put(5, 2, 1), get(3)], &[put(3, 2, 2)], &[put(5, 3, 4)]])));
+    let scripts: [&[Call]; 3] = [&[put(5, 2, 1), get(3)], &[put(3, 2, 2)], &[put(5, 3, 4)]];
+    println!("{}", told(&run(&scope(4, 5, &first, &scripts))));
 }
 
 /// Keys that differ in one half only. By their numbers: 5, 2^32 - 1, 2^32, 2^32 + 5; by their low halves alone 5 and
@@ -141,12 +149,12 @@ fn three_processes_on_keys_that_agree_in_one_half() {
         [put(LAST_OF_32, 2, 4), put(FIRST_BEYOND, 2, 1), get(FIRST_BEYOND)],
     ];
     for [one, two, three] in triples {
-        println!("{:?}", run(&scope(3, 4, &[], &[&[one], &[two], &[three]])));
+        println!("{}", told(&run(&scope(3, 4, &[], &[&[one], &[two], &[three]]))));
     }
 }
 
 #[test]
 fn four_processes() {
     let scripts: [&[Call]; 4] = [&[put(5, 2, 1)], &[put(5, 3, 1)], &[put(3, 2, 1)], &[get(5)]];
-    println!("{:?}", run(&scope(2, 3, &[], &scripts)));
+    println!("{}", told(&run(&scope(2, 3, &[], &scripts))));
 }
