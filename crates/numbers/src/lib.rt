@@ -1,5 +1,4 @@
-// Document 01's number of each refusal, the place of each answer in the tally, the number of each kind and phase; and what a number
-// in a word means.
+// The papers' number of each refusal; the number of each answer, kind and phase in a word, and what such a number means.
 ghost use mathlib.Core.Path.{_≡_};
 ghost use Rattle.model.specs.Numbers.{numberOf, answerNumber, answerOf, kindNumber, kindFrom, phaseNumber, phaseFrom};
 use model::types::Answer;
@@ -27,6 +26,7 @@ pub fn number_of(refusal: Refusal) -> u32
         Refusal::NotOpen => 14,
         Refusal::UnknownCommand => 15,
         Refusal::CutShort => 16,
+        Refusal::BadRange => 17,
     }
 }
 
@@ -41,6 +41,7 @@ pub fn answer_number(answer: Answer) -> u32
         Answer::New => 4,
         Answer::Found => 5,
         Answer::None => 6,
+        Answer::Swept => 7,
     }
 }
 
@@ -51,6 +52,7 @@ pub fn kind_number(kind: Kind) -> u32
         Kind::Idle => 0,
         Kind::Put => 1,
         Kind::Get => 2,
+        Kind::Scan => 3,
     }
 }
 
@@ -61,7 +63,8 @@ pub fn kind_from(word: u32) -> Kind
         0 => Kind::Idle,
         1 => Kind::Put,
         2 => Kind::Get,
-        _ => Kind::Get,
+        3 => Kind::Scan,
+        _ => Kind::Scan,
     }
 }
 
@@ -78,6 +81,7 @@ pub fn phase_number(phase: Phase) -> u32
         Phase::Make => 6,
         Phase::Link => 7,
         Phase::Release => 8,
+        Phase::Follow => 9,
     }
 }
 
@@ -94,7 +98,8 @@ pub fn phase_from(word: u32) -> Phase
         6 => Phase::Make,
         7 => Phase::Link,
         8 => Phase::Release,
-        _ => Phase::Release,
+        9 => Phase::Follow,
+        _ => Phase::Follow,
     }
 }
 
@@ -109,6 +114,7 @@ pub fn answer_of(word: u32) -> Answer
         4 => Answer::New,
         5 => Answer::Found,
         6 => Answer::None,
-        _ => Answer::None,
+        7 => Answer::Swept,
+        _ => Answer::Swept,
     }
 }

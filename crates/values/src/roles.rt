@@ -1,7 +1,7 @@
 // What differs by kind and by answer: the code of model/specs/Roles.antt. A new kind, phase or answer gets its row here.
 ghost use mathlib.Core.Path.{_≡_};
 ghost use Rattle.model.specs.Numbers.{noVersion};
-ghost use Rattle.model.specs.Roles.{isIdle, isPut, isGet, roleOf, plays, classOf, fromPut, isNew, versionWith};
+ghost use Rattle.model.specs.Roles.{isIdle, isPut, isGet, isScan, roleOf, plays, classOf, fromPut, isNew, versionWith};
 use model::types::Answer;
 use model::types::Class;
 use model::types::Kind;
@@ -16,6 +16,7 @@ pub fn is_idle(kind: Kind) -> bool
         Kind::Idle => true,
         Kind::Put => false,
         Kind::Get => false,
+        Kind::Scan => false,
     }
 }
 
@@ -26,6 +27,7 @@ pub fn is_put(kind: Kind) -> bool
         Kind::Idle => false,
         Kind::Put => true,
         Kind::Get => false,
+        Kind::Scan => false,
     }
 }
 
@@ -36,6 +38,18 @@ fn is_get(kind: Kind) -> bool
         Kind::Idle => false,
         Kind::Put => false,
         Kind::Get => true,
+        Kind::Scan => false,
+    }
+}
+
+fn is_scan(kind: Kind) -> bool
+    ensures { λ r. ⌜ r ≡ isScan kind ⌝ }
+{
+    match kind {
+        Kind::Idle => false,
+        Kind::Put => false,
+        Kind::Get => false,
+        Kind::Scan => true,
     }
 }
 
@@ -52,6 +66,7 @@ pub fn role_of(phase: Phase) -> Role
         Phase::Make => Role::Writing,
         Phase::Link => Role::Writing,
         Phase::Release => Role::Releasing,
+        Phase::Follow => Role::Following,
     }
 }
 
@@ -64,6 +79,7 @@ pub fn plays(kind: Kind, role: Role) -> bool
         Role::Reading => is_get(kind),
         Role::Writing => is_put(kind),
         Role::Releasing => is_put(kind),
+        Role::Following => is_scan(kind),
     }
 }
 
@@ -78,6 +94,7 @@ fn class_of(answer: Answer) -> Class
         Answer::New => Class::Inserted,
         Answer::Found => Class::Hit,
         Answer::None => Class::Miss,
+        Answer::Swept => Class::Scanned,
     }
 }
 
@@ -91,6 +108,7 @@ pub fn from_put(answer: Answer) -> bool
         Class::OtherPut => true,
         Class::Hit => false,
         Class::Miss => false,
+        Class::Scanned => false,
     }
 }
 
@@ -103,6 +121,7 @@ pub fn is_new(answer: Answer) -> bool
         Class::OtherPut => false,
         Class::Hit => false,
         Class::Miss => false,
+        Class::Scanned => false,
     }
 }
 
@@ -119,6 +138,10 @@ pub fn version_with(answer: Answer, own: Version) -> Version
             timestamp: 0,
         },
         Class::Miss => Version {
+            value: 0,
+            timestamp: 0,
+        },
+        Class::Scanned => Version {
             value: 0,
             timestamp: 0,
         },

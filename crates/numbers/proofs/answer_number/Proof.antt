@@ -25,6 +25,9 @@ enum-told-6 c = search needs
 enum-told-7 : tie.Need-enum-told-7
 enum-told-7 c = search needs
 
+enum-told-8 : tie.Need-enum-told-8
+enum-told-8 c = search needs
+
 returns : tie.Need-returns
 unfolding answerNumber
 returns c = simp (c .enum-told .given .1)
@@ -53,8 +56,12 @@ returns-7 : tie.Need-returns-7
 unfolding answerNumber
 returns-7 c = simp (c .enum-told7 .given .1)
 
-pub place-of-spec : {M : Type 1} → statement M
-place-of-spec =
+returns-8 : tie.Need-returns-8
+unfolding answerNumber
+returns-8 c = simp (c .enum-told8 .given .1)
+
+pub answer-number-spec : {M : Type 1} → statement M
+answer-number-spec =
     tie.close
     (tie.spec
     enum-told
@@ -64,10 +71,12 @@ place-of-spec =
     enum-told-5
     enum-told-6
     enum-told-7
+    enum-told-8
     returns
     returns-2
     returns-3
     returns-4
     returns-5
     returns-6
-    returns-7)
+    returns-7
+    returns-8)

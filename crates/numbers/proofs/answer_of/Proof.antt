@@ -31,12 +31,12 @@ returns-7 : tie.Need-returns-7
 returns-7 c = search needs
 
 returns-8 : tie.Need-returns-8
-returns-8 c = let r = c .match .rest in sym (List·getD-eq-default answers Answer.None {n = c .before .args .word} (past 6
-    (c .before .args .word) (past 5 (c .before .args .word) (past 4 (c .before .args .word) (past 3 (c .before .args .word) (past 2
-    (c .before .args .word) (past 1 (c .before .args .word) (past 0 (c .before .args .word) (omega arith) (r .0 .0 .0 .0 .0 .0 .1))
-    (r .0 .0 .0 .0 .0 .1)) (r .0 .0 .0 .0 .1)) (r .0 .0 .0 .1)) (r .0 .0 .1)) (r .0 .1)) (r .1)))
+returns-8 c = search needs
+
+returns-9 : tie.Need-returns-9
+returns-9 c = let r = c .match .rest in sym (List·getD-eq-default answers Answer.Swept {n = c .before .args .word} (past 7 (c .before .args .word) (past 6 (c .before .args .word) (past 5 (c .before .args .word) (past 4 (c .before .args .word) (past 3 (c .before .args .word) (past 2 (c .before .args .word) (past 1 (c .before .args .word) (past 0 (c .before .args .word) (omega arith) (r .0 .0 .0 .0 .0 .0 .0 .1)) (r .0 .0 .0 .0 .0 .0 .1)) (r .0 .0 .0 .0 .0 .1)) (r .0 .0 .0 .0 .1)) (r .0 .0 .0 .1)) (r .0 .0 .1)) (r .0 .1)) (r .1)))
 
 pub answer-of-spec : {M : Type 1} → statement M
 answer-of-spec =
     tie.close
-    (tie.spec returns returns-2 returns-3 returns-4 returns-5 returns-6 returns-7 returns-8)
+    (tie.spec returns returns-2 returns-3 returns-4 returns-5 returns-6 returns-7 returns-8 returns-9)

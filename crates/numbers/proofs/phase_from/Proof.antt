@@ -37,11 +37,10 @@ returns-9 : tie.Need-returns-9
 returns-9 c = search needs
 
 returns-10 : tie.Need-returns-10
-returns-10 c = let r = c .match .rest in sym (List·getD-eq-default phases Phase.Release {n = c .before .args .word} (past 8
-    (c .before .args .word) (past 7 (c .before .args .word) (past 6 (c .before .args .word) (past 5 (c .before .args .word) (past 4
-    (c .before .args .word) (past 3 (c .before .args .word) (past 2 (c .before .args .word) (past 1 (c .before .args .word) (past 0
-    (c .before .args .word) (omega arith) (r .0 .0 .0 .0 .0 .0 .0 .0 .1)) (r .0 .0 .0 .0 .0 .0 .0 .1)) (r .0 .0 .0 .0 .0 .0 .1))
-    (r .0 .0 .0 .0 .0 .1)) (r .0 .0 .0 .0 .1)) (r .0 .0 .0 .1)) (r .0 .0 .1)) (r .0 .1)) (r .1)))
+returns-10 c = search needs
+
+returns-11 : tie.Need-returns-11
+returns-11 c = let r = c .match .rest in sym (List·getD-eq-default phases Phase.Follow {n = c .before .args .word} (past 9 (c .before .args .word) (past 8 (c .before .args .word) (past 7 (c .before .args .word) (past 6 (c .before .args .word) (past 5 (c .before .args .word) (past 4 (c .before .args .word) (past 3 (c .before .args .word) (past 2 (c .before .args .word) (past 1 (c .before .args .word) (past 0 (c .before .args .word) (omega arith) (r .0 .0 .0 .0 .0 .0 .0 .0 .0 .1)) (r .0 .0 .0 .0 .0 .0 .0 .0 .1)) (r .0 .0 .0 .0 .0 .0 .0 .1)) (r .0 .0 .0 .0 .0 .0 .1)) (r .0 .0 .0 .0 .0 .1)) (r .0 .0 .0 .0 .1)) (r .0 .0 .0 .1)) (r .0 .0 .1)) (r .0 .1)) (r .1)))
 
 pub phase-from-spec : {M : Type 1} → statement M
 phase-from-spec =
@@ -56,4 +55,5 @@ phase-from-spec =
     returns-7
     returns-8
     returns-9
-    returns-10)
+    returns-10
+    returns-11)

@@ -18,6 +18,9 @@ enum-told-3 c = search needs
 enum-told-4 : tie.Need-enum-told-4
 enum-told-4 c = search needs
 
+enum-told-5 : tie.Need-enum-told-5
+enum-told-5 c = search needs
+
 returns : tie.Need-returns
 returns c = search needs
 
@@ -30,6 +33,9 @@ returns-3 c = simp (← c .before .before .class-of .ensures, c .enum-told3 .giv
 returns-4 : tie.Need-returns-4
 returns-4 c = simp (← c .before .before .class-of .ensures, c .enum-told4 .given .1)
 
+returns-5 : tie.Need-returns-5
+returns-5 c = simp (← c .before .before .class-of .ensures, c .enum-told5 .given .1)
+
 pub version-with-spec : {M : Type 1} → statement M
 version-with-spec =
     tie.close
@@ -39,7 +45,9 @@ version-with-spec =
     enum-told-2
     enum-told-3
     enum-told-4
+    enum-told-5
     returns
     returns-2
     returns-3
-    returns-4)
+    returns-4
+    returns-5)
