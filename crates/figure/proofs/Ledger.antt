@@ -15,7 +15,7 @@ use Rattle.model.proofs.Words.{filled}
 use Rattle.linearizability.proofs.Invariant.{Ghost, Nodes, Book, At, PlacedOf, Fits, fits-at}
 use Rattle.linearizability.proofs.Step.{searches, Ending, Does, Good, Result}
 use Rattle.linearizability.proofs.Transition.{transition-good}
-use Rattle.figure.specs.Types.{Kind, Idle, Put, Get, Walk, Answer, Call, Effect, Process, Version, Move, Refuse, Wait, Go, Note, Commit, End}
+use Rattle.figure.specs.Types.{Kind, Idle, Put, Get, Walk, Answer, Call, Effect, Process, Version, Move, Refuse, Wait, Go, Note, Commit, Show, End}
 use Rattle.figure.proofs.Walking.{Asked}
 use Rattle.figure.proofs.Runs.{Going, Place, at-place, stepped, place-after, Goes, after-call, run-call, Ended}
 
@@ -56,6 +56,7 @@ step-plays m pr tick b b′ Wait nz g d = absurd g
 step-plays m pr tick b b′ (Go c) nz g d = record { since = λ e. (d .0, refl); until = λ e. inl (d .0, e) }
 step-plays m pr tick b b′ (Note c) nz g d = record { since = λ e. (d .0, refl); until = λ e. inl (d .0, e) }
 step-plays m pr tick b b′ (Commit c a) nz g d = record { since = λ e. absurd (e (d .1)); until = λ e. inr (nz, d .2) }
+step-plays m pr tick b b′ (Show c x) nz g d = absurd g
 step-plays m pr tick b b′ (End a v e) nz g d = absurd g
 
 -- a put on tables of the same lengths is the same put
