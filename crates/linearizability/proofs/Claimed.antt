@@ -1,31 +1,32 @@
 -- The claim after a list: the ghost list of effects is what is read off answers and status, tick by tick.
 use Prim.Native.Nat.{ℕ, zero, suc, _+_, _≤_, _<_}
+use mathlib.Core.Bool.{true, false, not}
 use mathlib.Core.List.{List, [], _∷_, _++_}
 use mathlib.Core.Logic.{_≢_, _⊎_, inl, inr}
 use mathlib.Core.Path.{_≡_, refl, sym, ap, _∙_, subst}
 use native.Mathlib.Omega.{arith}
-use lib.Dec.{eqb}
+use lib.Dec.{T, eqb}
 use lib.ListN.{length, getD, take}
 use lib.Seq.{take-suc, take-all}
-use Rattle.linearizability.specs.Types.{Kind, Idle, Put, Get, Call, Process}
+use Rattle.linearizability.specs.Types.{Kind, Idle, Put, Get, Scan, Call, Process}
 use Rattle.model.specs.Choice.{if_then_else_}
-use Rattle.model.specs.Numbers.{answerOf}
-use Rattle.model.specs.Requests.{Operation, put, get, kindOf}
+use Rattle.model.specs.Requests.{Operation, put, get, scan, kindOf}
 use Rattle.model.specs.Map.{Map, applied}
 use Rattle.model.specs.Calls.{Store, standing, statusOf}
 use Rattle.model.specs.System.{viewOf}
-use Rattle.model.specs.History.{Action, step, look, Invoked, Pending, no-call, has-call, Completed, Query, History, eventsIn, logOf, pendingIn, completedIn, queriesIn}
+use Rattle.model.specs.History.{Action, step, look, Invoked, Pending, no-call, has-call, Sight, Completed, Query, History, eventsIn, logOf, pendingIn, sightsIn, completedIn, queriesIn}
 use Rattle.model.specs.ByValue.{byValue}
-use Rattle.model.specs.Linearizability.{Effected, shownEffect, runningEffects, effectsOf, fedAt, mapAfter, mapBefore, All, Any, Distinct, StepAt, replyTold, Settled, StandsFor, AnswersFrom, countedAt, runningAs, runningBelow, countsOf, Demanded, Beyond, Claim}
-use Rattle.model.specs.Roles.{isIdle}
-use Rattle.model.proofs.Tests.{if-eq, if-no, by-eq, by-le, ne→neqb}
-use Rattle.linearizability.proofs.Effects.{Took, nothing, took, fed, played, played-snoc, all-map, nothing≢took, Entered, Settles}
-use Rattle.linearizability.proofs.Live.{slot, keptOf, kept-kind, has-injective, EndedAt, Pairs, busyBelow, Hist, LiveFrom, status-is, status-beyond}
+use Rattle.model.specs.Linearizability.{Effected, takesEffect, mustTakeEffect, completedEffects, shownEffect, runningEffects, effectsOf, fedAt, mapAfter, mapBefore, All, Any, Distinct, StepAt, replyTold, Sighted, Shows, ScanEnded, EndsWithout, Settled, StandsFor, HasShown, AnswersFrom, runningAs, runningBelow, countsOf, Demanded, Beyond, Claim}
+use Rattle.model.specs.Roles.{isIdle, isScan}
+use Rattle.model.proofs.Tests.{if-by, if-eq, if-no, by-eq, by-le, ne→neqb, is-true, T-absurd}
+use Rattle.linearizability.proofs.Effects.{Took, nothing, took, fed, played, played-snoc, all-map, nothing≢took, Entered, SightedIn, ShownIn, EndedIn, Settles}
+use Rattle.linearizability.proofs.Following.{scan-unset}
+use Rattle.linearizability.proofs.Scanning.{Scanning}
+use Rattle.linearizability.proofs.Live.{memory, slot, keptOf, kept-kind, kind≢idle, has-injective, EndedAt, Pairs, busyBelow, Hist, LiveFrom, status-is, status-beyond}
 use Rattle.linearizability.proofs.Started.{kept-start}
-use Rattle.model.proofs.Laws.{place-at}
 use Rattle.linearizability.proofs.Due.{LookSaid, refusals-due, ticks-told, no-damage}
 use Rattle.linearizability.proofs.Rested.{idle-sound, busy-inspects}
-use Rattle.model.proofs.Seen.{Seen, seen, endedEffects, effectsSeen, effects-seen}
+use Rattle.model.proofs.Seen.{Seen, seen, effectsSeen, effects-seen}
 
 -- ---- lists
 
@@ -91,19 +92,22 @@ shown pr i no-call e rest P none one = by (pr .call .kind)
     by Idle = unfold standing shownEffect in nothing-yet
     by Put = unfold standing shownEffect in nothing-yet
     by Get = unfold standing shownEffect in nothing-yet
+    by Scan = unfold standing shownEffect in nothing-yet
 shown pr i (has-call d) e rest P none one = by (pr .call .kind) rest
   where
     by : (k : Kind) → (k ≡ Idle → pr .effect .tick ≡ 0) → P (shownEffect (standing k pr) i (has-call d))
     by Idle r = unfold standing shownEffect in (none (r refl))
     by Put r = unfold standing shownEffect in (if-eq P (pr .effect .tick) 0 none (one d refl))
     by Get r = unfold standing shownEffect in (if-eq P (pr .effect .tick) 0 none (one d refl))
+    by Scan r = unfold standing shownEffect in (if-eq P (pr .effect .tick) 0 none (one d refl))
 
 stands-for : (log : List Action) (i : ℕ) (c : Pending) (pr : Process) → pr .call ≡ keptOf c
+    → ((d : Invoked) → c ≡ has-call d → takesEffect (d .operation) ≡ false → pr .effect .tick ≡ 0)
     → ((d : Invoked) → c ≡ has-call d → pr .effect .tick ≢ 0 → StepAt log (pr .effect .tick) i × (d .start < pr .effect .tick))
     → StandsFor log i c (standing (pr .call .kind) pr)
-stands-for log i no-call pr e t =
+stands-for log i no-call pr e u t =
     subst (λ k. StandsFor log i no-call (standing k pr)) (sym (ap (λ (c : Call). c .kind) e)) (unfold standing in tt)
-stands-for log i (has-call d) pr e t =
+stands-for log i (has-call d) pr e u t =
     let kind : pr .call .kind ≡ kindOf (d .operation) = ap (λ (c : Call). c .kind) e ∙ kept-kind (d .operation) (d .start) in
     subst (λ k. StandsFor log i (has-call d) (standing k pr)) (sym kind) (by (d .operation) refl)
   where
@@ -111,20 +115,35 @@ stands-for log i (has-call d) pr e t =
     begun = ap (λ (c : Call). c .start) e ∙ kept-start (d .operation) (d .start)
 
     by : (op : Operation) → d .operation ≡ op → StandsFor log i (has-call d) (standing (kindOf op) pr)
-    by (put k v u draw) q = unfold standing in (ap kindOf (sym q), begun, t d refl)
-    by (get k) q = unfold standing in (ap kindOf (sym q), begun, t d refl)
+    by (put k v s draw) q = unfold standing in (ap kindOf (sym q), begun, u d refl, t d refl)
+    by (get k) q = unfold standing in (ap kindOf (sym q), begun, u d refl, t d refl)
+    by (scan first last) q = unfold standing in (ap kindOf (sym q), begun, u d refl, t d refl)
 
 shown-runs : (k : Kind) (pr : Process) → runningAs (standing k pr) ≡ (if isIdle k then 0 else 1)
 unfolding standing
 shown-runs Idle pr = refl
 shown-runs Put pr = refl
 shown-runs Get pr = refl
+shown-runs Scan pr = refl
 
-any-ended : (n i : ℕ) (c : Invoked) (l : List Completed) → Any (EndedAt n i c) l → Any (Is i c (suc n)) (endedEffects l)
-unfolding endedEffects
-any-ended n i c [] a = a
-any-ended n i c (d ∷ l) (inl p) = inl p
-any-ended n i c (d ∷ l) (inr a) = inr (any-ended n i c l a)
+-- ---- finished calls
+
+-- a call that takes no effect is told so
+told-unset : (K W : ℕ) (eff : List Took) (d : Completed) (op : Operation) → T (not (takesEffect op)) → EndedIn K W eff d op → d .told .effect ≡ 0
+told-unset K W eff d (put k v t draw) u e = absurd u
+told-unset K W eff d (get k) u e = absurd u
+told-unset K W eff d (scan first last) u e = e .1
+
+any-ended : (K W : ℕ) (log : List Action) (eff : List Took) (n i : ℕ) (c : Invoked) (l : List Completed) → All (Settles K W log eff) l
+    → Any (EndedAt n i c) l → Any (Is i c (suc n)) (completedEffects l)
+unfolding completedEffects
+any-ended K W log eff n i c [] s a = a
+any-ended K W log eff n i c (d ∷ l) s (inl p) =
+    if-by (λ (es : List Effected). Any (Is i c (suc n)) es) (mustTakeEffect d) (λ t. inl p)
+    (λ u. absurd (omega (arith, p .2, told-unset K W eff d (d .invoked .operation) u (s .0 .without))))
+any-ended K W log eff n i c (d ∷ l) s (inr b) =
+    let rest = any-ended K W log eff n i c l (s .1) b in
+    if-by (λ (es : List Effected). Any (Is i c (suc n)) es) (mustTakeEffect d) (λ t. inr rest) (λ u. rest)
 
 module _ {from : List Took} {K W : ℕ} {w : Store} {h : Seen} (v : LiveFrom from K W w h) where
   abbrev k : Hist K W w h (v .b) (v .eff)
@@ -169,17 +188,19 @@ module _ {from : List Took} {K W : ℕ} {w : Store} {h : Seen} (v : LiveFrom fro
       (λ d z ne. inl (sym q, has-injective (sym z ∙ ap (h .pending) (sym q) ∙ ei), subst (λ j. tickAt j ≡ suc t) q e))))
       (λ q. any-right (Is i c (suc t)) (shownAt n) (runningTo n) (any-running n i t c (omega arith) (omega arith) ei e)))
 
-  stands-done : (l : List Completed) → All (Settles K W (h .log) (v .eff)) l → All Stands (endedEffects l)
-  unfolding endedEffects
+  stands-done : (l : List Completed) → All (Settles K W (h .log) (v .eff)) l → All Stands (completedEffects l)
+  unfolding completedEffects
   stands-done [] a = tt
-  stands-done (d ∷ l) a = let e = a .0 .entered in ((e .before, e .tick-is, e .within, e .took-is), stands-done l (a .1))
+  stands-done (d ∷ l) a = if-by (All Stands) (mustTakeEffect d)
+      (λ t. let e = a .0 .effective (is-true (mustTakeEffect d) t) .1 in ((e .before, e .tick-is, e .within, e .took-is), stands-done l (a .1)))
+      (λ u. stands-done l (a .1))
 
   processes-le : h .processes ≤ w .state .processes
   processes-le = omega (arith, k .processes-is)
 
   pub stands : All Stands es
   unfolding effectsSeen
-  stands = all-append Stands (endedEffects (h .completed)) (runningTo (h .processes))
+  stands = all-append Stands (completedEffects (h .completed)) (runningTo (h .processes))
       (stands-done (h .completed) (k .done)) (all-running Stands (h .processes) processes-le (λ i lt d e ne. entered i d e ne))
 
   -- and each effect of the ghost list stands in ours
@@ -193,11 +214,11 @@ module _ {from : List Took} {K W : ℕ} {w : Store} {h : Seen} (v : LiveFrom fro
           (λ lt. omega (arith, k .processes-is))
 
       go : Any (EndedAt n i c) (h .completed) ⊎ ((h .pending i ≡ has-call c) × (tickAt i ≡ suc n))
-          → Any (Is i c (suc n)) (endedEffects (h .completed) ++ runningTo (h .processes))
+          → Any (Is i c (suc n)) (completedEffects (h .completed) ++ runningTo (h .processes))
       go (inl a) =
-          any-left (Is i c (suc n)) (endedEffects (h .completed)) (runningTo (h .processes)) (any-ended n i c (h .completed) a)
+          any-left (Is i c (suc n)) (completedEffects (h .completed)) (runningTo (h .processes)) (any-ended K W (h .log) (v .eff) n i c (h .completed) (k .done) a)
       go (inr r) =
-          any-right (Is i c (suc n)) (endedEffects (h .completed)) (runningTo (h .processes))
+          any-right (Is i c (suc n)) (completedEffects (h .completed)) (runningTo (h .processes))
           (any-running (h .processes) i n c processes-le (below i (r .1)) (r .0) (r .1))
 
   same-index : {a n : ℕ} → a ≡ suc n → (j : ℕ) → a ≡ suc j → n ≡ j
@@ -233,19 +254,33 @@ module _ {from : List Took} {K W : ℕ} {w : Store} {h : Seen} (v : LiveFrom fro
   before-is : (t n : ℕ) → t ≡ suc n → n ≤ length (v .eff) → mapBefore es t K W ≡ played K W [] (take n (v .eff))
   before-is t n e le = ap (λ t. mapBefore es t K W) e ∙ map-is n le
 
+  -- what was shown, by the map of its tick
+  shows : (op : Operation) (ss : List Sight) → ShownIn K W (v .eff) op ss → Shows K W es op ss
+  shows (put k v t draw) ss h = h
+  shows (get k) ss h = h
+  shows (scan first last) ss h = (
+    all-map (λ s q. record { above = q .0; below = q .1; newest = rw (map-is (s .tick) (q .2)) (q .3) }) ss (h .0),
+    h .1,
+  )
+
   settled : (d : Completed) → Settles K W (h .log) (v .eff) d → Settled K W (h .log) es d
-  settled d q =
-      let e = q .entered in
-      record {
-        reported = record { kind = q .kind; start = q .start; finish = q .finish };
-        took-effect = λ must. record {
-          own-step = step-at (e .before) (e .tick-is) (e .own-step);
-          after-start = e .after-start;
-          in-time = omega (arith, q .in-time, q .finish);
-          answer = ap (λ (b : Map). applied K W b (d .invoked .operation) .reply) (before-is (d .told .effect) (e .before) (e .tick-is) (omega (arith, e .within)))
-              ∙ e .replies;
-        };
-      }
+  settled d q = record {
+    reported = record { kind = q .kind; start = q .start; finish = q .finish };
+    took-effect = λ must. let e = q .effective must .1 in record {
+      own-step = step-at (e .before) (e .tick-is) (e .own-step);
+      after-start = e .after-start;
+      in-time = omega (arith, q .effective must .0, q .finish);
+      answer = ap (λ (b : Map). applied K W b (d .invoked .operation) .reply) (before-is (d .told .effect) (e .before) (e .tick-is) (omega (arith, e .within)))
+          ∙ e .replies;
+    };
+    showed = shows (d .invoked .operation) (d .shown) (q .showed);
+    ended = ends (d .invoked .operation) (q .without);
+  }
+    where
+      ends : (op : Operation) → EndedIn K W (v .eff) d op → EndsWithout K W es d op
+      ends (put k v t draw) e = tt
+      ends (get k) e = tt
+      ends (scan first last) e = record { answer = e .0; effect = e .1; whole = rw (map-is (d .invoked .start) (e .2)) (e .3) }
 
   -- ---- no two effects at one tick
 
@@ -272,39 +307,47 @@ module _ {from : List Took} {K W : ℕ} {w : Store} {h : Seen} (v : LiveFrom fro
 
   done-apart : (l : List Completed) → All (Settles K W (h .log) (v .eff)) l → Pairs l
       → ((i : ℕ) (c : Invoked) → h .pending i ≡ has-call c → All (λ (d : Completed). d .process ≡ i → d .ended < c .start) l)
-      → Distinct (endedEffects l ++ runningTo (h .processes))
-  unfolding endedEffects
+      → Distinct (completedEffects l ++ runningTo (h .processes))
+  unfolding completedEffects
   done-apart [] a p r = running-apart (h .processes) processes-le
-  done-apart (d ∷ l) a p r = (
-    all-append (λ (f : Effected). f .tick ≢ d .told .effect) (endedEffects l) (runningTo (h .processes))
-        (older l (a .1) (p .0)) (all-running (λ (f : Effected). f .tick ≢ d .told .effect) (h .processes) processes-le (λ i lt c e ne q. later i c e ne q)),
-    done-apart l (a .1) (p .1) (λ i c e. r i c e .1),
-  )
+  done-apart (d ∷ l) a p r = let rest = done-apart l (a .1) (p .1) (λ i c e. r i c e .1) in
+      if-by (λ (es : List Effected). Distinct (es ++ runningTo (h .processes))) (mustTakeEffect d)
+      (λ t. (
+        all-append (λ (f : Effected). f .tick ≢ d .told .effect) (completedEffects l) (runningTo (h .processes))
+            (older t l (a .1) (p .0)) (all-running (λ (f : Effected). f .tick ≢ d .told .effect) (h .processes) processes-le (λ i lt c e ne q. later t i c e ne q)),
+        rest,
+      ))
+      (λ u. rest)
     where
-      ed : Entered K W (h .log) (v .eff) (d .process) (d .invoked) (d .told .effect) (replyTold (d .told))
-      ed = a .0 .entered
+      ed : T (mustTakeEffect d) → Entered K W (h .log) (v .eff) (d .process) (d .invoked) (d .told .effect) (replyTold (d .told))
+      ed t = a .0 .effective (is-true (mustTakeEffect d) t) .1
 
       here : Effected
       here = record { process = d .process; invoked = d .invoked; tick = d .told .effect }
 
-      later : (i : ℕ) (c : Invoked) → h .pending i ≡ has-call c → tickAt i ≢ 0 → tickAt i ≡ d .told .effect → ⊥
-      later i c q ne z =
+      later : T (mustTakeEffect d) → (i : ℕ) (c : Invoked) → h .pending i ≡ has-call c → tickAt i ≢ 0 → tickAt i ≡ d .told .effect → ⊥
+      later t i c q ne z =
           let e = k .track i .entered c q ne in
-          let y = clash here (record { process = i; invoked = c; tick = tickAt i }) (ed .before, ed .tick-is, ed .within, ed .took-is) (entered i c q ne) z in
-          omega (arith, r i c q .0 (sym y), e .after-start, a .0 .in-time)
+          let s = ed t in
+          let y = clash here (record { process = i; invoked = c; tick = tickAt i }) (s .before, s .tick-is, s .within, s .took-is) (entered i c q ne) z in
+          omega (arith, r i c q .0 (sym y), e .after-start, a .0 .effective (is-true (mustTakeEffect d) t) .0)
 
-      older : (ds : List Completed) → All (Settles K W (h .log) (v .eff)) ds
+      older : T (mustTakeEffect d) → (ds : List Completed) → All (Settles K W (h .log) (v .eff)) ds
           → All (λ (e : Completed). e .process ≡ d .process → e .ended < d .invoked .start) ds
-          → All (λ (f : Effected). f .tick ≢ d .told .effect) (endedEffects ds)
-      older [] s t = unfold endedEffects in tt
-      older (e ∷ ds) s t = unfold endedEffects in (
-        (λ q.
-            (let en = s .0 .entered in
-            let y = clash here (record { process = e .process; invoked = e .invoked; tick = e .told .effect }) (ed .before, ed .tick-is, ed .within, ed .took-is)
-            (en .before, en .tick-is, en .within, en .took-is) q in
-            omega (arith, t .0 y, ed .after-start, s .0 .in-time))),
-        older ds (s .1) (t .1),
-      )
+          → All (λ (f : Effected). f .tick ≢ d .told .effect) (completedEffects ds)
+      older must [] s t = unfold completedEffects in tt
+      older must (e ∷ ds) s t = unfold completedEffects in (
+          if-by (All (λ (f : Effected). f .tick ≢ d .told .effect)) (mustTakeEffect e)
+          (λ z. (
+            (λ q.
+                (let c = ed must in
+                let en = s .0 .effective (is-true (mustTakeEffect e) z) in
+                let y = clash here (record { process = e .process; invoked = e .invoked; tick = e .told .effect }) (c .before, c .tick-is, c .within, c .took-is)
+                (en .1 .before, en .1 .tick-is, en .1 .within, en .1 .took-is) q in
+                omega (arith, t .0 y, c .after-start, en .0))),
+            older must ds (s .1) (t .1),
+          ))
+          (λ z. older must ds (s .1) (t .1)))
 
   -- ---- the claim
 
@@ -316,6 +359,25 @@ module _ {from : List Took} {K W : ℕ} {w : Store} {h : Seen} (v : LiveFrom fro
 
   timely : (i : ℕ) (d : Invoked) → h .pending i ≡ has-call d → tickAt i ≢ 0 → StepAt (h .log) (tickAt i) i × (d .start < tickAt i)
   timely i d q ne = let e = k .track i .entered d q ne in (step-at (e .before) (e .tick-is) (e .own-step), e .after-start)
+
+  unset : (i : ℕ) (d : Invoked) → h .pending i ≡ has-call d → takesEffect (d .operation) ≡ false → tickAt i ≡ 0
+  unset i d q u = by (d .operation) u kind
+    where
+      kind : slot w i .call .kind ≡ kindOf (d .operation)
+      kind = ap (λ (c : Call). c .kind) (k .track i .same ∙ ap keptOf q) ∙ kept-kind (d .operation) (d .start)
+
+      by : (op : Operation) → takesEffect op ≡ false → slot w i .call .kind ≡ kindOf op → tickAt i ≡ 0
+      by (put k v t draw) u e = cc
+      by (get k) u e = cc
+      by (scan first last) u e =
+          scan-unset (slot w i) (v .core .fits i) (λ z. kind≢idle (scan first last) (sym e ∙ z)) (subst (λ z. T (isScan z)) (sym e) tt)
+
+  has-shown : (i : ℕ) → HasShown K W es (h .pending i) (h .sights i)
+  has-shown i = by (h .pending i) (k .scanning i)
+    where
+      by : (c : Pending) → Scanning K W (memory w) (v .eff) c (slot w i .cursor .pred) (h .sights i) → HasShown K W es c (h .sights i)
+      by no-call s = tt
+      by (has-call c) s = shows (c .operation) (h .sights i) (s .0)
 
   looks-right : All (λ (q : Query). AnswersFrom (mapAfter es (q .tick) K W) q) (h .queries)
   looks-right = all-map (λ q a lawful. rw (map-is (q .tick) (a .0)) (rw lawful at (a .1))) (h .queries) (k .looks)
@@ -336,6 +398,7 @@ module _ {from : List Took} {K W : ℕ} {w : Store} (h : History) (v : LiveFrom 
       × Distinct es
       × (All (λ (q : Query). AnswersFrom (mapAfter es (q .tick) K W) q) (queriesIn (h .entries)))
       × (w .state .counts ≡ countsOf (mapAfter es (eventsIn (h .entries)) K W))
+      × ((i : ℕ) → HasShown K W es (pendingIn (h .entries) i) (sightsIn (h .entries) i))
 
   -- what reads the effects
   by-effects : these (effectsOf (statusOf (w .state)) h)
@@ -344,6 +407,7 @@ module _ {from : List Took} {K W : ℕ} {w : Store} (h : History) (v : LiveFrom 
     done-apart v (completedIn (h .entries)) (v .hist .done) (v .hist .pairs) (v .hist .past),
     looks-right v,
     counts-are v,
+    has-shown v,
   ))
 
   demanded : Demanded K W (viewOf byValue w) h
@@ -352,10 +416,11 @@ module _ {from : List Took} {K W : ℕ} {w : Store} (h : History) (v : LiveFrom 
       record {
         completed = by-effects .0;
         running = λ i lt. rw (status-is (v .core) i (omega (arith, k .processes-is)))
-            (stands-for (logOf (h .entries)) i (pendingIn (h .entries) i) (slot w i) (k .track i .same) (timely v i));
+            (stands-for (logOf (h .entries)) i (pendingIn (h .entries) i) (slot w i) (k .track i .same) (unset v i) (timely v i));
         distinct = by-effects .1;
+        shown = λ i lt. by-effects .4 i;
         looks = by-effects .2;
-        tally = λ n lt. subst (λ m. getD (w .tally) m 0 ≡ countedAt m (completedIn (h .entries))) (place-at n lt) (k .tally (answerOf n));
+        tally = k .tally;
         starts =
             k .counted ∙ ap (λ n. length (completedIn (h .entries)) + n) (ap (busyBelow (w .state .process)) (sym (k .processes-is)) ∙ sym (runs-below v (h .processes) (processes-le v)));
         ticks = ticks-told (h .processes) (h .limit) (h .entries) (k .faults);

@@ -6,11 +6,11 @@ use mathlib.Core.List.{List, [], _∷_}
 use mathlib.Core.Path.{_≡_, refl, sym, ap, subst}
 use native.Mathlib.Omega.{arith}
 use borrow.Author.Tests.{eqb-true}
-use lib.Dec.{eqb, leb}
-use Rattle.linearizability.specs.Types.{Refusal, NoProcess, BadKey, Busy, NoCall, Spent, Version, Permit, Granted, Denied, Starting, Stepping, Looking}
+use lib.Dec.{eqb, ltb, leb}
+use Rattle.linearizability.specs.Types.{Refusal, NoProcess, BadKey, BadRange, Busy, NoCall, Spent, Version, Permit, Granted, Denied, Starting, Stepping, Looking}
 use Rattle.model.specs.Choice.{if_then_else_}
 use Rattle.model.specs.Numbers.{numberOf}
-use Rattle.model.specs.Requests.{keyOf}
+use Rattle.model.specs.Requests.{firstOf, lastOf}
 use Rattle.model.specs.Map.{Map, versionsOf, backIn, lookList, lookIn}
 use Rattle.model.specs.State.{lawfulKey}
 use Rattle.model.specs.Calls.{denyIf}
@@ -81,9 +81,10 @@ due-sound : (p l : ℕ) (es : List Observation) (a : Action) → NoDamage (dueAf
 unfolding due numberOf
 due-sound p l es (start i op) =
     deny-sound (leb p i) NoProcess _ (omega arith, omega arith)
-    (deny-sound (not (lawfulKey (keyOf op))) BadKey _ (omega arith, omega arith)
+    (deny-sound (not (lawfulKey (firstOf op) && lawfulKey (lastOf op))) BadKey _ (omega arith, omega arith)
+    (deny-sound (ltb (lastOf op) (firstOf op)) BadRange _ (omega arith, omega arith)
     (deny-sound (not (isFree (pendingIn es i))) Busy _ (omega arith, omega arith)
-    (deny-sound (leb l (eventsIn es)) Spent Granted (omega arith, omega arith) tt)))
+    (deny-sound (leb l (eventsIn es)) Spent Granted (omega arith, omega arith) tt))))
 due-sound p l es (step i) =
     deny-sound (leb p i) NoProcess _ (omega arith, omega arith)
     (deny-sound (isFree (pendingIn es i)) NoCall _ (omega arith, omega arith)
@@ -107,6 +108,7 @@ module _ (p l : ℕ) where
   step-fine es i (Stepping.Refused r) e = (omega (arith, e), refusal-due _ _ r e, tt)
   step-fine es i (Stepping.Moved t) e = let d = event-due _ _ t _ e in (omega (arith, e), d .0, d .1)
   step-fine es i (Stepping.Waited t) e = let d = event-due _ _ t _ e in (omega (arith, e), d .0, d .1)
+  step-fine es i (Stepping.Shown t x) e = let d = event-due _ _ t _ e in (omega (arith, e), d .0, d .1)
   step-fine es i (Stepping.Finished f) e = let d = event-due _ _ (f .finish) _ e in (omega (arith, e), d .0, d .1)
 
   pub refusals-due : (es : List Observation) → faultsOf p l es ≡ 0 → All LookSaid (queriesIn es)

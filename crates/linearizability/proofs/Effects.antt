@@ -3,17 +3,19 @@
 use Prim.Native.Nat.{ℕ, suc, _+_, _≤_, _<_}
 use mathlib.Core.List.{List, [], _∷_, _++_}
 use mathlib.Core.Logic.{_≢_}
+use mathlib.Core.Bool.{true}
 use mathlib.Core.Path.{_≡_, refl, sym, ap, _∙_}
 use native.Mathlib.Omega.{arith}
 use lib.ListN.{length, getD, take, length-append, List·getD-append, List·getD-eq-default}
 use lib.Seq.{getD-at, take-at, take-append-le}
-use Rattle.linearizability.specs.Types.{Looking, BadKey}
+use Rattle.linearizability.specs.Types.{Looking, BadKey, Found, Swept}
 use Rattle.model.specs.Choice.{if_then_else_}
-use Rattle.model.specs.Requests.{kindOf}
-use Rattle.model.specs.Map.{Map, Reply, applied, lookIn}
+use Rattle.model.specs.Requests.{Operation, put, get, scan, kindOf}
+use Rattle.model.specs.Map.{Map, versionsOf, Reply, getFrom, applied, lookIn}
+use Rattle.model.specs.Numbers.{noVersion}
 use Rattle.model.specs.State.{lawfulKey}
-use Rattle.model.specs.History.{Action, step, look, Invoked, Completed, Query}
-use Rattle.model.specs.Linearizability.{replyTold, All}
+use Rattle.model.specs.History.{Action, step, look, Invoked, Sight, Completed, Query}
+use Rattle.model.specs.Linearizability.{takesEffect, replyTold, All, Any, Rising}
 use Rattle.model.proofs.Tests.{by-eq, by-le}
 
 -- what took effect at an event: nothing, or a process's call
@@ -62,14 +64,43 @@ pub record Entered (K W : ℕ) (log : List Action) (eff : List Took) (i : ℕ) (
   pub took-is : getD eff before nothing ≡ took i c
   pub replies : applied K W (played K W [] (take before eff)) (c .operation) .reply ≡ reply
 
+-- ---- what a call shows, over the list of effects
+
+-- one sight of a scan
+abbrev pub SightedIn : (K W : ℕ) → List Took → (first last : ℕ) → Sight → Type 0
+SightedIn K W eff first last s = (first ≤ s .item .key) × (s .item .key ≤ last) × (s .tick ≤ length eff)
+    × (getFrom (played K W [] (take (s .tick) eff)) (s .item .key) ≡ record { answer = Found; version = s .item .version })
+
+-- what a call has shown, by what was started
+abbrev pub ShownIn : (K W : ℕ) → List Took → Operation → List Sight → Type 0
+ShownIn K W eff (put k v t draw) ss = ss ≡ []
+ShownIn K W eff (get k) ss = ss ≡ []
+ShownIn K W eff (scan first last) ss = All (SightedIn K W eff first last) ss × Rising ss
+
+abbrev pub Has : Map → (key : ℕ) → Type 0
+Has b k = versionsOf b k ≢ []
+
+abbrev pub IsShown : (key : ℕ) → List Sight → Type 0
+IsShown k ss = Any (λ (s : Sight). s .item .key ≡ k) ss
+
+-- what ends a call that takes no effect
+abbrev pub EndedIn : (K W : ℕ) → List Took → Completed → Operation → Type 0
+EndedIn K W eff d (put k v t draw) = Unit {0}
+EndedIn K W eff d (get k) = Unit {0}
+EndedIn K W eff d (scan first last) = (replyTold (d .told) ≡ record { answer = Swept; version = noVersion }) × (d .told .effect ≡ 0)
+    × (d .invoked .start ≤ length eff)
+    × ((k : ℕ) → first ≤ k → k ≤ last → Has (played K W [] (take (d .invoked .start) eff)) k → IsShown k (d .shown))
+
 -- a finished call
 pub record Settles (K W : ℕ) (log : List Action) (eff : List Took) (d : Completed) : Type 0 where
   pub kind : d .told .kind ≡ kindOf (d .invoked .operation)
   pub start : d .told .start ≡ d .invoked .start
   pub finish : d .told .finish ≡ d .ended
   pub ended : d .ended ≤ length log
-  pub in-time : d .told .effect ≤ d .ended
-  pub entered : Entered K W log eff (d .process) (d .invoked) (d .told .effect) (replyTold (d .told))
+  pub effective : takesEffect (d .invoked .operation) ≡ true
+      → (d .told .effect ≤ d .ended) × Entered K W log eff (d .process) (d .invoked) (d .told .effect) (replyTold (d .told))
+  pub showed : ShownIn K W eff (d .invoked .operation) (d .shown)
+  pub without : EndedIn K W eff d (d .invoked .operation)
 
 -- a look
 abbrev pub LookedAt : (K W : ℕ) → List Took → Query → Type 0
@@ -92,14 +123,33 @@ module _ (K W : ℕ) (log : List Action) (eff : List Took) (a : Action) (x : Too
         ap (λ l. applied K W (played K W [] l) (c .operation) .reply) (take-append-le (e .before) eff (x ∷ []) (omega (arith, e .within))) ∙ e .replies;
   }
 
+  pub shown-grow : (op : Operation) (ss : List Sight) → ShownIn K W eff op ss → ShownIn K W (eff ++ (x ∷ [])) op ss
+  shown-grow (put k v t draw) ss h = h
+  shown-grow (get k) ss h = h
+  shown-grow (scan first last) ss h = (
+    all-map (λ s q. (q .0, q .1, omega (arith, q .2, length-append eff (x ∷ [])), rw (take-append-le (s .tick) eff (x ∷ []) (q .2)) (q .3))) ss (h .0),
+    h .1,
+  )
+
+  ended-grow : (d : Completed) (op : Operation) → EndedIn K W eff d op → EndedIn K W (eff ++ (x ∷ [])) d op
+  ended-grow d (put k v t draw) h = h
+  ended-grow d (get k) h = h
+  ended-grow d (scan first last) h = (
+    h .0,
+    h .1,
+    omega (arith, h .2, length-append eff (x ∷ [])),
+    rw (take-append-le (d .invoked .start) eff (x ∷ []) (h .2)) (h .3),
+  )
+
   pub settles-grow : (d : Completed) → Settles K W log eff d → Settles K W (log ++ (a ∷ [])) (eff ++ (x ∷ [])) d
   settles-grow d h = record {
     kind = h .kind;
     start = h .start;
     finish = h .finish;
     ended = omega (arith, h .ended, length-append log (a ∷ []));
-    in-time = h .in-time;
-    entered = entered-grow (h .entered);
+    effective = λ must. let e = h .effective must in (e .0, entered-grow (e .1));
+    showed = shown-grow (d .invoked .operation) (d .shown) (h .showed);
+    without = ended-grow d (d .invoked .operation) (h .without);
   }
 
   pub looked-grow : (q : Query) → LookedAt K W eff q → LookedAt K W (eff ++ (x ∷ [])) q

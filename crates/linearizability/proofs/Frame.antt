@@ -4,7 +4,7 @@ use Prim.Native.Nat.{ℕ, zero, suc, _≤_}
 use mathlib.Core.List.{List}
 use mathlib.Core.Path.{_≡_, refl, _∙_}
 use native.Mathlib.Omega.{arith}
-use Rattle.linearizability.specs.Types.{Phase, Walk, Read, Seek, Lock, Check, Update, Make, Link, Release, Class, Inserted, OtherPut, Hit, Miss, Effect, Process}
+use Rattle.linearizability.specs.Types.{Phase, Walk, Read, Seek, Lock, Check, Update, Make, Link, Release, Follow, Class, Inserted, OtherPut, Hit, Miss, Scanned, Effect, Process}
 use Rattle.model.specs.Layout.{Memory, key, top, next, lock}
 use Rattle.model.specs.Roles.{classOf}
 use Rattle.linearizability.proofs.Invariant.{Ghost, In, At, Placed, Clear, Target, FoundAt, Made, Holds, Stage, StageOf, Settled, Ok, Fits}
@@ -72,6 +72,10 @@ module _ {m m′ : Memory} {g g′ : Ghost} {i : ℕ} (F : Grown m m′ g g′ i
   settled-kept tp x k l OtherPut c = c
   settled-kept tp x k l Hit c = c
   settled-kept tp x k l Miss c = c
+  settled-kept tp x k l Scanned c = c
+
+  pub in-kept : {l x : ℕ} → In m g l x → In m′ g′ l x
+  in-kept {l} {x} h = (omega (arith, F .more, h .0), omega (arith, F .grow x (h .0), h .1))
 
   pub found-kept : {l p k : ℕ} → FoundAt m l p k → FoundAt m′ l p k
   found-kept {l} {p} {k} f =
@@ -136,6 +140,7 @@ module _ {m m′ : Memory} {g g′ : Ghost} {i : ℕ} (F : Frame m m′ g g′ i
     held-kept (c .0 .spot) (c .2),
     settled-kept (F .grown) (pr .call .top) (pr .cursor .made) (pr .call .key) (pr .cursor .level) (classOf (pr .effect .answer)) (c .3),
   )
+  ok-kept pr Follow c = (c .0, in-kept (F .grown) (c .1), c .2)
 
   pub fits-kept : {pr : Process} → Fits m g i pr → Fits m′ g′ i pr
   fits-kept {pr} f = record {

@@ -6,10 +6,10 @@ use mathlib.Core.Logic.{_≢_}
 use mathlib.Core.Path.{_≡_}
 use lib.Dec.{T}
 use lib.ListN.{length, getD}
-use Rattle.linearizability.specs.Types.{Idle, Phase, Walk, Read, Seek, Lock, Check, Update, Make, Link, Release, Class, Inserted, OtherPut, Hit, Miss, None, Effect, Process, Version}
+use Rattle.linearizability.specs.Types.{Idle, Phase, Walk, Read, Seek, Lock, Check, Update, Make, Link, Release, Follow, Class, Inserted, OtherPut, Hit, Miss, Scanned, None, Effect, Process, Version}
 use Rattle.model.specs.Layout.{Memory, nodeWords, versionWords, key, newest, top, next, lock, value, timestamp, prev, levels, topLevel}
 use Rattle.model.specs.Map.{Map, held}
-use Rattle.model.specs.Roles.{isPut, isGet, roleOf, plays, classOf}
+use Rattle.model.specs.Roles.{isPut, isGet, isScan, roleOf, plays, classOf}
 use Rattle.model.specs.Phases.{maxNodes, maxVersions}
 use Rattle.linearizability.proofs.Level.{Level}
 use Rattle.linearizability.proofs.MapLaws.{no-entry}
@@ -126,6 +126,7 @@ Settled m g i tp x k l Inserted = (l ≤ tp) × Made m g i x k tp (suc l)
 Settled m g i tp x k l OtherPut = Unit {0}
 Settled m g i tp x k l Hit = ⊥
 Settled m g i tp x k l Miss = ⊥
+Settled m g i tp x k l Scanned = ⊥
 
 abbrev pub StageOf : Memory → Ghost → ℕ → Process → Type 0
 StageOf m g i pr = Stage m g i (pr .effect) (pr .call .top) (pr .cursor .made) (pr .call .key) (pr .cursor .level)
@@ -156,12 +157,16 @@ Ok m g i pr Update = PlacedOf m g pr × StageOf m g i pr × HoldsOf m i pr × (p
 Ok m g i pr Make = PlacedOf m g pr × StageOf m g i pr × HoldsOf m i pr × (pr .cursor .level ≡ 0) × ClearOf m pr
 Ok m g i pr Link = PlacedOf m g pr × StageOf m g i pr × HoldsOf m i pr × (1 ≤ pr .cursor .level) × ClearOf m pr
 Ok m g i pr Release = PlacedOf m g pr × (pr .effect .tick ≢ 0) × HoldsOf m i pr × SettledOf m g i pr
+Ok m g i pr Follow = (pr .cursor .level ≡ 0) × In m g 0 (pr .cursor .pred) × Unset (pr .effect)
 
 abbrev pub Puts : Process → Type 0
 Puts pr = T (isPut (pr .call .kind))
 
 abbrev pub Gets : Process → Type 0
 Gets pr = T (isGet (pr .call .kind))
+
+abbrev pub Scans : Process → Type 0
+Scans pr = T (isScan (pr .call .kind))
 
 -- the process is in order: what call it has goes through its phase, and what is known there holds
 pub record Fits (m : Memory) (g : Ghost) (i : ℕ) (pr : Process) : Type 0 where

@@ -9,9 +9,11 @@ pub mod Locking
 pub mod Update
 pub mod Make
 pub mod Link
+pub mod Following
 pub mod Transition
 pub mod Locks
 pub mod Effects
+pub mod Scanning
 pub mod Live
 pub mod Started
 pub mod Stepped
@@ -25,5 +27,6 @@ pub mod Rested
 pub mod Claimed
 pub mod Linearized
 pub mod Refuted
+pub mod RefutedScans
 pub mod Simulated
 pub mod Touched

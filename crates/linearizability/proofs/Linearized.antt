@@ -9,7 +9,7 @@ use Rattle.model.specs.Layout.{nodeWords, versionWords, capacity}
 use Rattle.model.specs.Requests.{Fitting}
 use Rattle.model.specs.Calls.{Store, openDue, openBy, openOf, statusOf}
 use Rattle.model.specs.System.{System, Opens, refused, opened, viewOf}
-use Rattle.model.specs.History.{Action, start, step, look, logOf, eventsIn, pendingIn, startsIn, completedIn, queriesIn, act, Run, perform, performAll, emptyHistory, begin}
+use Rattle.model.specs.History.{Action, start, step, look, logOf, eventsIn, pendingIn, sightsIn, startsIn, completedIn, queriesIn, act, Run, perform, performAll, emptyHistory, begin}
 use Rattle.model.specs.ByValue.{Given, fittingOf, opensBy, byValue, freshStore}
 use Rattle.model.specs.Linearizability.{Effected, All, Any, Claim, OpensAs, upTo, Among, EffectsStay, Linearizable}
 use Rattle.model.proofs.Tests.{if-le}
@@ -55,7 +55,7 @@ abbrev versionsOf : Given → ℕ
 versionsOf g = capacity versionWords (length (g .versions))
 
 pub fresh-live : (g : Given) (w : Store) → byValue .fresh g ≡ opened w → Live (nodesOf g) (versionsOf g) w (seen (emptyHistory (fittingOf g)))
-unfolding logOf pendingIn startsIn completedIn queriesIn faultsOf
+unfolding logOf pendingIn sightsIn startsIn completedIn queriesIn faultsOf
 fresh-live g w e = go (openOf (g .nodes) (g .versions) (g .processes) (g .limit) .result .outcome) refl e
   where
     w₀ : Store

@@ -8,22 +8,22 @@ use native.Mathlib.Omega.{arith}
 use lib.Dec.{T, eqb, leb, le→leb}
 use lib.ListN.{length, getD, set, length-append}
 use lib.Seq.{getD-set-same, getD-set-other}
-use Rattle.linearizability.specs.Types.{Kind, Idle, Put, Get, Answer, NoProcess, Call, Process, Status}
+use Rattle.linearizability.specs.Types.{Kind, Idle, Put, Get, Scan, NoProcess, Call, Process, Status}
 use Rattle.model.specs.Choice.{if_then_else_}
 use Rattle.model.specs.Layout.{Memory, nodeWords, versionWords, capacity, top, limits}
 use Rattle.model.specs.Map.{Map}
-use Rattle.model.specs.Numbers.{answerNumber}
 use Rattle.model.specs.State.{noProcess, idleProcess, processAt, memoryOf, withEvent, lawfulNodes, lawfulVersions, lawfulState, lawfulStore}
 use Rattle.model.specs.Phases.{ownVersion, maxNodes, maxVersions}
 use Rattle.model.specs.Calls.{callFor, Store, standing, statusPermit, statusBy, statusOf}
-use Rattle.model.specs.Requests.{Operation, put, get, kindOf}
-use Rattle.model.specs.History.{Action, Invoked, Pending, no-call, has-call, pendingAt, isFree, Completed}
+use Rattle.model.specs.Requests.{Operation, put, get, scan, kindOf}
+use Rattle.model.specs.History.{Action, Invoked, Pending, no-call, has-call, pendingAt, isFree, Sight, sightsAt, Completed}
 use Rattle.model.specs.Linearizability.{All, Any, countedAt}
 use Rattle.model.specs.Roles.{isIdle}
 use Rattle.model.proofs.Tests.{is-true, by-eq, if-yes, if-no, eq→eqb, ne→neqb}
 use Rattle.linearizability.proofs.Invariant.{Ghost, Nodes, Book, Fits, Climbs}
 use Rattle.linearizability.proofs.Locks.{Named}
 use Rattle.linearizability.proofs.Effects.{Took, nothing, took, fed, played, played-snoc, Grows, all-map, Entered, Settles, LookedAt, entered-grow, settles-grow, looked-grow, effect-cases}
+use Rattle.linearizability.proofs.Scanning.{Scanning, KeysStay, scanning-stays}
 use Rattle.model.proofs.Seen.{Seen, sawRefusal}
 
 abbrev pub memory : Store → Memory
@@ -92,9 +92,10 @@ pub record Hist (K W : ℕ) (w : Store) (h : Seen) (b : Map) (eff : List Took) :
   pub book-is : b ≡ played K W [] eff
   pub done : All (Settles K W (h .log) eff) (h .completed)
   pub track : (i : ℕ) → Track K W (h .log) eff i (h .pending i) (slot w i)
+  pub scanning : (i : ℕ) → Scanning K W (memory w) eff (h .pending i) (slot w i .cursor .pred) (h .sights i)
   pub nothing-else : (n i : ℕ) (c : Invoked) → getD eff n nothing ≡ took i c → Left h w n i c
   pub looks : All (LookedAt K W eff) (h .queries)
-  pub tally : (a : Answer) → getD (w .tally) (answerNumber a) 0 ≡ countedAt (answerNumber a) (h .completed)
+  pub tally : (n : ℕ) → n < limits .tally → getD (w .tally) n 0 ≡ countedAt n (h .completed)
   pub counted : h .starts ≡ length (h .completed) + busyBelow (w .state .process) (w .state .processes)
   pub few : h .starts ≤ length (h .log)
   pub faults : h .faults ≡ 0
@@ -165,6 +166,7 @@ pub one-busy : (k : Kind) → k ≢ Idle → _≡_ {A = ℕ} (if isIdle k then 0
 one-busy Idle ne = absurd (ne refl)
 one-busy Put ne = refl
 one-busy Get ne = refl
+one-busy Scan ne = refl
 
 pub none-busy : (k : Kind) → k ≡ Idle → _≡_ {A = ℕ} (if isIdle k then 0 else 1) 0
 none-busy k e = rw e refl
@@ -174,10 +176,12 @@ pub kept-kind : (op : Operation) (start : ℕ) → callFor op start .kind ≡ ki
 unfolding callFor
 kept-kind (put k v t draw) start = refl
 kept-kind (get k) start = refl
+kept-kind (scan first last) start = refl
 
 pub kind≢idle : (op : Operation) → kindOf op ≢ Idle
 kind≢idle (put k v t draw) e = let z : _≡_ {A = ℕ} 0 1 = cc in omega arith
 kind≢idle (get k) e = let z : _≡_ {A = ℕ} 0 1 = cc in omega arith
+kind≢idle (scan first last) e = let z : _≡_ {A = ℕ} 0 1 = cc in omega arith
 
 pub idle-free : (c : Pending) → isIdle (keptOf c .kind) ≡ isFree c
 idle-free no-call = refl
@@ -186,6 +190,7 @@ idle-free (has-call c) = by (c .operation)
     by : (op : Operation) → isIdle (callFor op (c .start) .kind) ≡ false
     by (put k v t draw) = unfold callFor in refl
     by (get k) = unfold callFor in refl
+    by (scan first last) = unfold callFor in refl
 
 pub has-injective : {c d : Invoked} → has-call c ≡ has-call d → c ≡ d
 has-injective e = cc
@@ -197,6 +202,14 @@ pending-same f i c = if-yes (eqb i i) c (f i) (eq→eqb i i refl)
 pub pending-other : (f : ℕ → Pending) (i : ℕ) (c : Pending) (j : ℕ) → j ≢ i → pendingAt f i c j ≡ f j
 unfolding pendingAt
 pending-other f i c j ne = if-no (eqb j i) c (f j) (ne→neqb j i ne)
+
+pub sights-same : (f : ℕ → List Sight) (i : ℕ) (ss : List Sight) → sightsAt f i ss i ≡ ss
+unfolding sightsAt
+sights-same f i ss = if-yes (eqb i i) ss (f i) (eq→eqb i i refl)
+
+pub sights-other : (f : ℕ → List Sight) (i : ℕ) (ss : List Sight) (j : ℕ) → j ≢ i → sightsAt f i ss j ≡ f j
+unfolding sightsAt
+sights-other f i ss j ne = if-no (eqb j i) ss (f j) (ne→neqb j i ne)
 
 -- one process of the array is replaced
 pub busy-set : (l : List Process) (i n : ℕ) (pr : Process) → i < n → i < length l
@@ -232,6 +245,7 @@ refused-live {from} {K} {W} {w} {h} right t l =
         book-is = k .book-is;
         done = k .done;
         track = k .track;
+        scanning = k .scanning;
         nothing-else = k .nothing-else;
         looks = k .looks;
         tally = k .tally;
@@ -248,7 +262,7 @@ refused-live {from} {K} {W} {w} {h} right t l =
 module _ (K W : ℕ) (w : Store) (h : Seen) (b : Map) (eff : List Took) (k : Hist K W w h b eff)
     (eight : length (w .state .process) ≡ limits .processes)
     (i : ℕ) (i8 : i < limits .processes) (a : Action) (x : Took) (m : Memory) (pr : Process) (tly : List ℕ)
-    (pending : ℕ → Pending) (starts : ℕ) (completed : List Completed) (faults : ℕ) (b′ : Map) where
+    (pending : ℕ → Pending) (sights : ℕ → List Sight) (starts : ℕ) (completed : List Completed) (faults : ℕ) (b′ : Map) where
   abbrev pub w′ : Store
   w′ = record { state = withEvent (w .state) i (m .counts) pr; nodes = m .nodes; versions = m .versions; tally = tly }
 
@@ -258,6 +272,7 @@ module _ (K W : ℕ) (w : Store) (h : Seen) (b : Map) (eff : List Took) (k : His
     limit = h .limit;
     log = h .log ++ (a ∷ []);
     pending = pending;
+    sights = sights;
     starts = starts;
     completed = completed;
     queries = h .queries;
@@ -290,13 +305,15 @@ module _ (K W : ℕ) (w : Store) (h : Seen) (b : Map) (eff : List Took) (k : His
     pub K-same : length (m .nodes) ≡ length (w .nodes)
     pub W-same : length (m .versions) ≡ length (w .versions)
     pub map-is : b′ ≡ fed K W b x
-    pub others : (j : ℕ) → j ≢ i → pending j ≡ h .pending j
+    pub keys : KeysStay (memory w) m
+    pub others : (j : ℕ) → j ≢ i → (pending j ≡ h .pending j) × (sights j ≡ h .sights j)
     pub track : Track K W (h .log ++ (a ∷ [])) (eff ++ (x ∷ [])) i (pending i) pr
+    pub scanning : Scanning K W m (eff ++ (x ∷ [])) (pending i) (pr .cursor .pred) (sights i)
     pub done : All (Settles K W (h .log ++ (a ∷ [])) (eff ++ (x ∷ []))) completed
     pub kept : (n j : ℕ) (c : Invoked) → Any (EndedAt n j c) (h .completed) → Any (EndedAt n j c) completed
     pub old : (n : ℕ) (c : Invoked) → h .pending i ≡ has-call c → slot w i .effect .tick ≡ suc n → Left h′ w′ n i c
     pub now : (n j : ℕ) (c : Invoked) → n ≡ length (h .log) → x ≡ took j c → Left h′ w′ n j c
-    pub tally : (q : Answer) → getD tly (answerNumber q) 0 ≡ countedAt (answerNumber q) completed
+    pub tally : (n : ℕ) → n < limits .tally → getD tly n 0 ≡ countedAt n completed
     pub counted : starts ≡ length completed + busyBelow (set (w .state .process) i pr) (w .state .processes)
     pub few : starts ≤ suc (length (h .log))
     pub no-faults : faults ≡ 0
@@ -315,7 +332,11 @@ module _ (K W : ℕ) (w : Store) (h : Seen) (b : Map) (eff : List Took) (k : His
     done = e .done;
     track = λ j. by-eq j i
         (λ q. rw (q, slot-same) (e .track))
-        (λ ne. rw (e .others j ne, slot-other j ne) (track-grow (k .track j)));
+        (λ ne. rw (e .others j ne .0, slot-other j ne) (track-grow (k .track j)));
+    scanning = λ j. by-eq j i
+        (λ q. rw (q, slot-same) (e .scanning))
+        (λ ne. rw (e .others j ne .0, e .others j ne .1, slot-other j ne)
+        (scanning-stays K W (memory w) m (e .keys) (h .log) eff a x even (h .pending j) (slot w j .cursor .pred) (h .sights j) (k .scanning j)));
     nothing-else = λ n j c q. effect-cases K W (h .log) eff a x even n j c q
         (λ o. left n j c (k .nothing-else n j c o))
         (λ q r. e .now n j c q r);
@@ -333,4 +354,4 @@ module _ (K W : ℕ) (w : Store) (h : Seen) (b : Map) (eff : List Took) (k : His
       left n j c (inr r) = by-eq j i
           (λ q. subst (λ z. Left h′ w′ n z c) (sym q)
           (e .old n c (subst (λ z. h .pending z ≡ has-call c) q (r .0)) (subst (λ z. slot w z .effect .tick ≡ suc n) q (r .1))))
-          (λ ne. inr (e .others j ne ∙ r .0, ap (λ (z : Process). z .effect .tick) (slot-other j ne) ∙ r .1))
+          (λ ne. inr (e .others j ne .0 ∙ r .0, ap (λ (z : Process). z .effect .tick) (slot-other j ne) ∙ r .1))

@@ -1,7 +1,7 @@
 -- The steps that take and give back a lock: lock, check and release. Nodes, keys and links stay; who else holds a lock
 -- keeps it.
 use Prim.Native.Nat.{ℕ, zero, suc, _+_, _-_, _≤_}
-use mathlib.Core.Logic.{_≢_, inr}
+use mathlib.Core.Logic.{_≢_, inl, inr}
 use mathlib.Core.Path.{_≡_, refl, sym, ap, _∙_, subst}
 use native.Mathlib.Omega.{arith}
 use native.Mathlib.Numerals.{add-one}
@@ -148,7 +148,7 @@ module _ (m : Memory) (g : Ghost) (i : ℕ) (pr : Process) (tick : ℕ) (b : Map
       → Good m g i pr tick b (End (pr .effect .answer) (ownVersion call) (pr .effect .tick)) free
   unfolding processAfter
   end-good w ne q h give = free-good (End (pr .effect .answer) (ownVersion call) (pr .effect .tick)) q h (idle-fits free g i)
-      (refl, inr (w, ne, refl, refl, refl)) (λ x u k no-more. give x k)
+      (refl, inr (inl (w, ne, refl, refl, refl))) (λ x u k no-more. give x k)
 
   rise-good : classOf (pr .effect .answer) ≡ Inserted → Puts pr → pr .effect .tick ≢ 0 → PlacedOf m g pr → HoldsOf m i pr
       → (c .level ≤ call .top) × Made m g i (c .made) (call .key) (call .top) (suc (c .level))

@@ -7,9 +7,9 @@ use mathlib.Core.Path.{_≡_, refl, sym, ap, _∙_, subst}
 use native.Mathlib.Omega.{arith}
 use lib.Dec.{eqb}
 use lib.ListN.{length}
-use Rattle.linearizability.specs.Types.{Idle, Phase, Walk, Read, Seek, Lock, Check, Update, Make, Link, Release, Answer, Cursor, Process, Ahead, Unused, Less, Equal, Past, Move, Refuse, Wait, Go}
+use Rattle.linearizability.specs.Types.{Idle, Phase, Walk, Read, Seek, Lock, Check, Update, Make, Link, Release, Follow, Answer, Cursor, Process, Ahead, Unused, Less, Equal, Past, Move, Refuse, Wait, Go}
 use Rattle.model.specs.Layout.{Memory, topLevel, word, newest, next, lock, timestamp, withWord, nodeWords, linkAt, lockAt, nodeOffsets, levels}
-use Rattle.model.specs.Phases.{Moved, moved, refuses, at, aheadOf, usedNode, usedVersion, maxNodes, maxVersions, withHolder, lockOf, checked, checkBy, checkOf, committed, addVersion, updateNode, updateAt, updateOf, addNode, makeOf, addLink, linkOf, released, freed, releaseOf, walkOf, readOf, seekOf, lawfulProcess, phaseOf, transitionOf}
+use Rattle.model.specs.Phases.{Moved, moved, refuses, at, aheadOf, usedNode, usedVersion, maxNodes, maxVersions, withHolder, lockOf, checked, checkBy, checkOf, committed, addVersion, updateNode, updateAt, updateOf, addNode, makeOf, addLink, linkOf, released, freed, releaseOf, walkOf, readOf, followOf, seekOf, lawfulProcess, phaseOf, transitionOf}
 use Rattle.model.specs.Calls.{processAfter}
 use Rattle.model.proofs.Laws.{refused-is}
 use Rattle.model.proofs.Tests.{if-by, if-eq, if-le, if-lt, by-eq, is-true}
@@ -26,6 +26,7 @@ Holding Update = Unit {0}
 Holding Make = Unit {0}
 Holding Link = Unit {0}
 Holding Release = Unit {0}
+Holding Follow = ⊥
 
 pub record HoldsAt (pr : Process) (l x : ℕ) : Type 0 where
   pub kind : pr .call .kind ≢ Idle
@@ -201,6 +202,7 @@ module _ (m : Memory) (i : ℕ) (tick : ℕ) (pr : Process) (size : length (m .n
   phase-locked Make e = make-locked (subst (λ q. Holding q) (sym e) tt)
   phase-locked Link e = link-locked (subst (λ q. Holding q) (sym e) tt)
   phase-locked Release e = release-locked (subst (λ q. Holding q) (sym e) tt) (released (pr .call) c (pr .effect) (pr .preds) m)
+  phase-locked Follow e = calm (λ h. subst (λ q. Holding q) e h) (followOf (pr .call) c m)
 
   -- any step, whether refused or not
   pub step-locked : L (transitionOf (i + 1) tick pr m)

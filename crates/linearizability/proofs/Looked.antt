@@ -117,6 +117,7 @@ look-live {from} {K} {W} {w} {h} l k back =
         book-is = q .book-is;
         done = q .done;
         track = q .track;
+        scanning = q .scanning;
         nothing-else = q .nothing-else;
         looks = (
           (

@@ -10,7 +10,6 @@ use lib.ListN.{length, getD, replicate, length-replicate}
 use Rattle.linearizability.specs.Types.{Idle, Walk, Refusal, Permit, Granted, Denied, Process, Opening}
 use Rattle.model.specs.Layout.{Memory, nodeWords, versionWords, limits, capacity, word, key, top, next, freshNodes, linkAt, lockAt, nodeOffsets, topLevel, levels}
 use Rattle.model.specs.Map.{held}
-use Rattle.model.specs.Numbers.{answerNumber}
 use Rattle.model.specs.State.{idleProcess, noProcess, freshState, within, lawfulLength, lawfulNodes, lawfulVersions}
 use Rattle.model.specs.Calls.{openDue, openPermit, openBy, openOf, Store}
 use Rattle.model.specs.ByValue.{freshStore}
@@ -200,9 +199,10 @@ module _ (nodes versions : List ℕ) (processes limit : ℕ) (law : Lawful nodes
         λ i. fresh-slot (λ q. Track (capacity nodeWords n) (capacity versionWords (length versions)) [] [] i Rattle.model.specs.History.no-call q)
         (record { same = refl; resting = λ e. refl; begun = omega arith; entered = λ d e ne. absurd (ne refl) })
         (record { same = refl; resting = λ e. refl; begun = omega arith; entered = λ d e ne. absurd (ne refl) }) i;
+    scanning = λ i. tt;
     nothing-else = λ k i c e. absurd (nothing≢took e);
     looks = tt;
-    tally = λ a. filled {A = ℕ} (limits .tally) (answerNumber a) 0;
+    tally = λ n lt. filled {A = ℕ} (limits .tally) n 0;
     counted = omega (arith, none-busy processes);
     few = omega arith;
     faults = refl;

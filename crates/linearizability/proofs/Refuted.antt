@@ -67,6 +67,7 @@ abbrev finish : (Finish → Finish) → Stepping → Stepping
 finish f (Stepping.Refused r) = Stepping.Refused r
 finish f (Stepping.Moved t) = Stepping.Moved t
 finish f (Stepping.Waited t) = Stepping.Waited t
+finish f (Stepping.Shown t x) = Stepping.Shown t x
 finish f (Stepping.Finished d) = Stepping.Finished (f d)
 
 abbrev pub finishing : (Finish → Finish) → Change
@@ -82,7 +83,7 @@ abbrev pub tallying : (List ℕ → List ℕ) → Change
 tallying f = record { fresh = byValue .fresh; start = byValue .start; tells = same; look = same; status = same; tally = f }
 
 -- what is told with another answer, version and effect tick
-abbrev told : Finish → Answer → Version → (effect : ℕ) → Finish
+abbrev pub told : Finish → Answer → Version → (effect : ℕ) → Finish
 told d a v e = record {
   kind = d .kind;
   answer = a;
@@ -93,7 +94,7 @@ told d a v e = record {
   finish = d .finish;
 }
 
-abbrev is : Answer → Answer → Bool
+abbrev pub is : Answer → Answer → Bool
 is a b = eqb (answerNumber a) (answerNumber b)
 
 abbrev own : Finish → Version
@@ -103,7 +104,7 @@ own d = record { value = d .value; timestamp = d .timestamp }
 abbrev pub given : (K W : ℕ) → Given
 given K W = record { nodes = replicate (16 * suc K) 77; versions = replicate (3 * suc W) 77; processes = 1; limit = 40 }
 
-abbrev freshOf : Given → Store
+abbrev pub freshOf : Given → Store
 freshOf g = freshStore (openOf (g .nodes) (g .versions) (g .processes) (g .limit))
 
 -- a short list from an accepted opening, after which the claim is false
@@ -121,7 +122,7 @@ pub wrong : {c : Change} → Refutation c → Linearizable (changed c) → ⊥
 wrong r l = r .refutes (l .claim (given (r .K) (r .W)) (r .fresh) (r .opens) (r .K) (r .W)
     (length-replicate (16 * suc (r .K)) 77) (length-replicate (3 * suc (r .W)) 77) (r .actions))
 
-abbrev w₁ : Store
+abbrev pub w₁ : Store
 w₁ = freshOf (given 1 1)
 
 -- ---- "A start that always refuses"
@@ -196,6 +197,7 @@ tick-ahead = telling ahead
     ahead (Stepping.Refused r) = Stepping.Refused r
     ahead (Stepping.Moved t) = Stepping.Moved (t + 1)
     ahead (Stepping.Waited t) = Stepping.Waited t
+    ahead (Stepping.Shown t x) = Stepping.Shown t x
     ahead (Stepping.Finished d) = Stepping.Finished d
 
 pub tick-ahead-refuted : Refutation tick-ahead
@@ -272,6 +274,7 @@ equal-dropped = record { fresh = byValue .fresh; start = older; tells = finish r
     older w i (Requests.put k v t draw) =
         byValue .start w i (Requests.put k v (if stampIs (byValue .look w k 0) t then t - 1 else t) draw)
     older w i (Requests.get k) = byValue .start w i (Requests.get k)
+    older w i (Requests.scan first last) = byValue .start w i (Requests.scan first last)
 
     restored : Finish → Finish
     restored d =

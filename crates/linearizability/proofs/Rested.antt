@@ -8,7 +8,7 @@ use mathlib.Core.Path.{_≡_, refl, sym, ap, _∙_, subst}
 use native.Mathlib.Omega.{arith}
 use lib.Dec.{T}
 use lib.ListN.{getD}
-use Rattle.linearizability.specs.Types.{Kind, Idle, Put, Get, Busy, Process, Version, Inspecting, Status}
+use Rattle.linearizability.specs.Types.{Kind, Idle, Put, Get, Scan, Busy, Process, Version, Inspecting, Status}
 use Rattle.model.specs.Layout.{Memory, key, newest, top, next, lock, prev, levels}
 use Rattle.model.specs.Map.{Map}
 use Rattle.model.specs.Calls.{Store, standing, statusOf}
@@ -82,6 +82,9 @@ module _ {w : Store} {g : Ghost} {b : Map} (k : Core w g b) (idle : (i : ℕ) �
   unfolding inspectOf inspectPermit
   idle-inspects = rw (core-lawful k, below-idle (w .state .processes)) (unfold inspectBy in (means-sound m rested-sound))
 
+running≢idle : {q : Kind} {s t : ℕ} → Status.Running q s t ≡ Status.Idle → ⊥
+running≢idle e = let z : _≡_ {A = ℕ} 0 1 = cc in omega arith
+
 -- standing shows no call at any process, so none runs
 pub idle-sound : {w : Store} {g : Ghost} {b : Map} → Core w g b
     → ((i : ℕ) → i < w .state .processes → statusOf (w .state) i ≡ Status.Idle)
@@ -92,13 +95,8 @@ idle-sound {w} k f =
     shown-idle : (kind : Kind) (pr : Process) → standing kind pr ≡ Status.Idle → kind ≡ Idle
     shown-idle Idle pr e = refl
     shown-idle Put pr e = absurd (unfold standing in (running≢idle e))
-      where
-        running≢idle : {q : Kind} {s t : ℕ} → Status.Running q s t ≡ Status.Idle → ⊥
-        running≢idle e = let z : _≡_ {A = ℕ} 0 1 = cc in omega arith
     shown-idle Get pr e = absurd (unfold standing in (running≢idle e))
-      where
-        running≢idle : {q : Kind} {s t : ℕ} → Status.Running q s t ≡ Status.Idle → ⊥
-        running≢idle e = let z : _≡_ {A = ℕ} 0 1 = cc in omega arith
+    shown-idle Scan pr e = absurd (unfold standing in (running≢idle e))
 
 -- standing shows a call at some process, so the inspection is refused
 pub busy-inspects : {w : Store} {g : Ghost} {b : Map} → Core w g b → (i : ℕ) → i < w .state .processes
@@ -110,6 +108,7 @@ busy-inspects {w} k i below ne = rw (core-lawful k, some-busy (w .state .process
     by-kind Idle pr h = absurd (h (unfold standing in refl))
     by-kind Put pr h = refl
     by-kind Get pr h = refl
+    by-kind Scan pr h = refl
 
     busy : isIdle (slot w i .call .kind) ≡ false
     busy = by-kind (slot w i .call .kind) (slot w i) (λ e. ne (status-is k i below ∙ e))

@@ -5,7 +5,7 @@ use mathlib.Core.List.{[], _∷_, _++_, List}
 use mathlib.Core.Logic.{_≢_}
 use mathlib.Core.Path.{_≡_, refl, sym, ap, _∙_, subst}
 use native.Mathlib.Omega.{arith}
-use lib.Dec.{T, eqb, leb, leb→le, nleb→lt}
+use lib.Dec.{T, eqb, ltb, leb, leb→le, nleb→lt}
 use lib.ListN.{length, getD, set, length-set, length-append}
 use lib.Seq.{getD-set-same, getD-set-other}
 use Rattle.linearizability.specs.Types.{Idle, Walk, Refusal, Call, Process, Permit, Granted, Denied, Starting}
@@ -14,16 +14,17 @@ use Rattle.model.specs.Numbers.{numberOf}
 use Rattle.model.specs.Roles.{isPut}
 use Rattle.model.specs.State.{noProcess, lawfulKey, withEvent}
 use Rattle.model.specs.Calls.{Store, startPermit, begun, callFor, startBy, startOf}
-use Rattle.model.specs.Requests.{Operation, put, get, keyOf}
-use Rattle.model.specs.History.{Action, start, Invoked, Pending, no-call, has-call, pendingAt, isFree, due}
+use Rattle.model.specs.Requests.{Operation, put, get, scan, firstOf, lastOf}
+use Rattle.model.specs.History.{Action, start, Invoked, Pending, no-call, has-call, pendingAt, isFree, due, Sight, sightsAt}
 use Rattle.model.specs.ByValue.{withState}
 use Rattle.model.proofs.Laws.{top-at-most}
 use Rattle.model.proofs.Tests.{if-by, and→, by-eq, eq→eqb}
 use Rattle.model.proofs.Words.{filled}
 use Rattle.linearizability.proofs.Invariant.{At, PlacedOf, Puts, fits-at}
 use Rattle.linearizability.proofs.Step.{searches}
-use Rattle.linearizability.proofs.Effects.{Took, nothing, fed, nothing≢took, grows-on, all-map}
-use Rattle.linearizability.proofs.Live.{memory, slot, Core, Hist, LiveFrom, event-hist, done-grow, core-lawful, one-busy, none-busy, busy-set, kept-kind, kind≢idle, idle-free, keptOf, has-injective, pending-same, pending-other, refused-live}
+use Rattle.linearizability.proofs.Effects.{Took, nothing, fed, nothing≢took, grows-on, all-map, ShownIn}
+use Rattle.linearizability.proofs.Live.{memory, slot, Core, Hist, LiveFrom, event-hist, done-grow, core-lawful, one-busy, none-busy, busy-set, kept-kind, kind≢idle, idle-free, keptOf, has-injective, pending-same, pending-other, sights-same, sights-other, refused-live}
+use Rattle.linearizability.proofs.Scanning.{Scanning, ReachedBy}
 use Rattle.model.proofs.Seen.{Seen, isDenied, isGranted, sawRefusal, sawStart, seenDue, tickOf, unless}
 
 -- what is refused is what is due
@@ -40,7 +41,7 @@ granted≢denied e = let z : _≡_ {A = ℕ} 0 1 = cc in omega arith
 
 pub record Allowed (h : Seen) (i : ℕ) (op : Operation) : Type 0 where
   pub below : i < h .processes
-  pub key-low : 1 ≤ keyOf op
+  pub key-low : 1 ≤ firstOf op
   pub free : h .pending i ≡ no-call
   pub time : length (h .log) < h .limit
 
@@ -48,13 +49,15 @@ allowed : (h : Seen) (i : ℕ) (op : Operation) → seenDue h (start i op) ≡ G
 unfolding due
 allowed h i op =
     let P : Permit → Type 0 = λ d. d ≡ Granted → Allowed h i op in
-    let k = keyOf op in
+    let k = firstOf op in
     if-by P (leb (h .processes) i) (λ t e. absurd (granted≢denied e)) λ t1.
-    if-by P (not (lawfulKey k)) (λ t e. absurd (granted≢denied e)) λ t2.
+    if-by P (not (lawfulKey k && lawfulKey (lastOf op))) (λ t e. absurd (granted≢denied e)) λ t2.
+    if-by P (ltb (lastOf op) k) (λ t e. absurd (granted≢denied e)) λ t17.
     if-by P (not (isFree (h .pending i))) (λ t e. absurd (granted≢denied e)) λ t3.
     if-by P (leb (h .limit) (length (h .log))) (λ t e. absurd (granted≢denied e)) λ t4 e. record {
       below = nleb→lt (h .processes) i t1;
-      key-low = leb→le 1 k (and→ (leb 1 k) (leb k (limits .key)) (plain (lawfulKey k) t2) .0);
+      key-low = leb→le 1 k (and→ (leb 1 k) (leb k (limits .key))
+          (and→ (lawfulKey k) (lawfulKey (lastOf op)) (plain (lawfulKey k && lawfulKey (lastOf op)) t2) .0) .0);
       free = free-is (h .pending i) (plain (isFree (h .pending i)) t3);
       time = nleb→lt (h .limit) (length (h .log)) t4;
     }
@@ -68,20 +71,29 @@ allowed h i op =
     free-is (has-call c) t = absurd t
 
 -- what a process keeps of an operation
-pub kept-key : (op : Operation) (n : ℕ) → callFor op n .key ≡ keyOf op
+pub kept-key : (op : Operation) (n : ℕ) → callFor op n .key ≡ firstOf op
 unfolding callFor
 kept-key (put k v t draw) n = refl
 kept-key (get k) n = refl
+kept-key (scan first last) n = refl
+
+pub kept-last : (op : Operation) (n : ℕ) → callFor op n .last ≡ lastOf op
+unfolding callFor
+kept-last (put k v t draw) n = refl
+kept-last (get k) n = refl
+kept-last (scan first last) n = refl
 
 pub kept-start : (op : Operation) (n : ℕ) → callFor op n .start ≡ n
 unfolding callFor
 kept-start (put k v t draw) n = refl
 kept-start (get k) n = refl
+kept-start (scan first last) n = refl
 
 kept-top : (op : Operation) (n : ℕ) → callFor op n .top ≤ topLevel
 unfolding callFor
 kept-top (put k v t draw) n = top-at-most draw
 kept-top (get k) n = omega arith
+kept-top (scan first last) n = omega arith
 
 module _ {from : List Took} {K W : ℕ} {w : Store} {h : Seen} (l : LiveFrom from K W w h) (i : ℕ) (op : Operation) where
   abbrev call : Call
@@ -96,19 +108,22 @@ module _ {from : List Took} {K W : ℕ} {w : Store} {h : Seen} (l : LiveFrom fro
   abbrev pending′ : ℕ → Pending
   pending′ = pendingAt (h .pending) i (has-call invoked₀)
 
+  abbrev sights′ : ℕ → List Sight
+  sights′ = sightsAt (h .sights) i []
+
   start-is : call .start ≡ w .state .events + 1
   start-is = kept-start op (w .state .events + 1)
 
   busy : call .kind ≢ Idle
   busy e = kind≢idle op (sym (kept-kind op (w .state .events + 1)) ∙ e)
 
-  as-due : startPermit (w .state) (w .nodes) (w .versions) i (keyOf op) ≡ seenDue h (start i op)
+  as-due : startPermit (w .state) (w .nodes) (w .versions) i (firstOf op) (lastOf op) ≡ seenDue h (start i op)
   unfolding startPermit due
   as-due =
       let k = l .hist in
       rw (core-lawful (l .core), k .processes-is, k .limit-is, k .ticks, k .track i .same, idle-free (h .pending i)) refl
 
-  begun-placed : 1 ≤ keyOf op → PlacedOf (memory w) (l .g) (begun call)
+  begun-placed : 1 ≤ firstOf op → PlacedOf (memory w) (l .g) (begun call)
   begun-placed low =
       record { top5 = kept-top op (w .state .events + 1); six = refl; spot = head 5 (omega arith); memo = λ j h6. rw (filled {A = ℕ} 6 j 0) (head j h6) }
     where
@@ -163,6 +178,27 @@ module _ {from : List Took} {K W : ℕ} {w : Store} {h : Seen} (l : LiveFrom fro
           beyond = λ j u. ap (λ (q : Process). q .call .kind) (there j (omega (arith, below))) ∙ k .beyond j u;
         }
 
+    -- a scan stands at the head, before its first key
+    scanning-begun : Scanning K W (memory w) (l .eff ++ (nothing ∷ [])) (has-call invoked₀) 0 []
+    scanning-begun = (shown op, by op (al .key-low))
+      where
+        shown : (op : Operation) → ShownIn K W (l .eff ++ (nothing ∷ [])) op []
+        shown (put k v t draw) = refl
+        shown (get k) = refl
+        shown (scan first last) = (tt, tt)
+
+        by : (op : Operation) → 1 ≤ firstOf op → ReachedBy K W (memory w) (l .eff ++ (nothing ∷ [])) (tickOf h) 0 [] op
+        by (put k v t draw) low = tt
+        by (get k) low = tt
+        by (scan first last) low = (
+          omega arith,
+          record {
+            begun = omega (arith, l .hist .ticks, l .hist .one-each, length-append (l .eff) (nothing ∷ []));
+            passed = tt;
+            covered = λ k lo hi held le. absurd (omega (arith, l .core .nodes .head-key));
+          },
+        )
+
     start-hist : seenDue h (start i op) ≡ Granted
         → Hist K W (withState w (withEvent (w .state) i (w .state .counts) (begun call))) (sawStart h i op (Starting.Started (w .state .events + 1)))
         (l .b) (l .eff ++ (nothing ∷ []))
@@ -171,20 +207,22 @@ module _ {from : List Took} {K W : ℕ} {w : Store} {h : Seen} (l : LiveFrom fro
         let k = l .core in
         let q = l .hist in
         let i8 : i < limits .processes = omega (arith, k .processes .1, below) in
-        event-hist K W w h (l .b) (l .eff) q (k .array) i i8 a nothing (memory w) (begun call) (w .tally) pending′ (suc (h .starts)) (h .completed)
+        event-hist K W w h (l .b) (l .eff) q (k .array) i i8 a nothing (memory w) (begun call) (w .tally) pending′ sights′ (suc (h .starts)) (h .completed)
         (h .faults + unless (isGranted (seenDue h (start i op)) && eqb (w .state .events + 1) (tickOf h))) (l .b) (record {
           K-same = refl;
           W-same = refl;
           map-is = refl;
-          others = λ j ne. pending-other (h .pending) i (has-call invoked₀) j ne;
+          keys = (omega arith, λ x u. refl);
+          others = λ j ne. (pending-other (h .pending) i (has-call invoked₀) j ne, sights-other (h .sights) i [] j ne);
           track = record {
             same = ap (callFor op) (omega (arith, q .ticks)) ∙ ap keptOf (sym (pending-same (h .pending) i (has-call invoked₀)));
             resting = λ e. refl;
             begun = omega (arith, q .ticks, start-is, length-append (h .log) (a ∷ []));
             entered = λ d e ne. absurd (ne refl);
           };
+          scanning = rw (pending-same (h .pending) i (has-call invoked₀), sights-same (h .sights) i []) scanning-begun;
           done =
-              done-grow K W w h (l .b) (l .eff) q (k .array) i i8 a nothing (memory w) (begun call) (w .tally) pending′ (suc (h .starts)) (h .completed) 0 (l .b);
+              done-grow K W w h (l .b) (l .eff) q (k .array) i i8 a nothing (memory w) (begun call) (w .tally) pending′ sights′ (suc (h .starts)) (h .completed) 0 (l .b);
           kept = λ n j c d. d;
           old = λ n c e f. absurd (omega (arith, q .track i .resting resting));
           now = λ n j c e f. absurd (nothing≢took f);

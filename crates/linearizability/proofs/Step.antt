@@ -8,7 +8,7 @@ use mathlib.Core.Bool.{_&&_}
 use lib.Dec.{T, leb, le→leb}
 use lib.ListN.{length, getD, set, length-set}
 use lib.Seq.{getD-set-same, getD-set-other}
-use Rattle.linearizability.specs.Types.{Kind, Idle, Put, Get, Walk, Read, Seek, Lock, Searching, Answer, Found, None, Inserted, Miss, Call, Cursor, Process, Version, Ahead, Unused, Less, Equal, Past, Move, Refuse, Wait, Go, Note, Commit, End}
+use Rattle.linearizability.specs.Types.{Kind, Idle, Put, Get, Scan, Walk, Read, Seek, Lock, Follow, Searching, Answer, Found, None, Swept, Inserted, Miss, Call, Cursor, Process, Version, Ahead, Unused, Less, Equal, Past, Move, Refuse, Wait, Go, Note, Commit, Show, End}
 use Rattle.model.specs.Layout.{Memory, key, newest, next, versionAt, levels}
 use Rattle.model.specs.Map.{Map, versionsOf, putIn, answered, getBy, getFrom}
 use Rattle.model.specs.Numbers.{noVersion}
@@ -19,17 +19,18 @@ use Rattle.model.specs.Calls.{processAfter}
 use Rattle.model.proofs.Tests.{if-by, if-eq, if-lt, by-eq, →and, T-absurd}
 use Rattle.linearizability.proofs.Level.{absent}
 use Rattle.linearizability.proofs.MapLaws.{no-entry, First, versions-none, versions-first}
-use Rattle.linearizability.proofs.Invariant.{Ghost, In, Nodes, Chain, Book, At, Placed, PlacedOf, Clear, ClearOf, Target, FoundAt, FoundOf, StageOf, Unset, Puts, Gets, Fits, fits-at, Climbs, Risen}
+use Rattle.linearizability.proofs.Invariant.{Ghost, In, Nodes, Chain, Book, At, Placed, PlacedOf, Clear, ClearOf, Target, FoundAt, FoundOf, StageOf, Unset, Puts, Gets, Scans, Fits, fits-at, Climbs, Risen}
 use Rattle.linearizability.proofs.Frame.{Frame, frame-refl}
 use Rattle.linearizability.proofs.Alike.{alike-refl, risen-alike, risen-same}
 
 -- ---- the statement
 
--- how a call ends: a get at its effect, a put with its effect behind it
+-- how a call ends: a get at its effect, a put with its effect behind it, a scan without one
 abbrev pub Ending : Process → (tick : ℕ) → Map → Answer → Version → (effect : ℕ) → Type 0
 Ending pr tick b a v e =
     (Gets pr × (pr .effect .tick ≡ 0) × (e ≡ tick) × (getFrom b (pr .call .key) ≡ record { answer = a; version = v }))
     ⊎ (Puts pr × (pr .effect .tick ≢ 0) × (e ≡ pr .effect .tick) × (a ≡ pr .effect .answer) × (v ≡ ownVersion (pr .call)))
+    ⊎ (Scans pr × (pr .effect .tick ≡ 0) × (e ≡ 0) × (a ≡ Swept) × (v ≡ noVersion))
 
 -- what the move is on the map: b before it, b′ after it
 abbrev pub Does : Memory → Process → (tick : ℕ) → (b b′ : Map) → Move → Type 0
@@ -39,6 +40,7 @@ Does m pr tick b b′ (Go c) = (b′ ≡ b) × (c .made ≡ pr .cursor .made)
 Does m pr tick b b′ (Note c) = (b′ ≡ b) × (c .made ≡ pr .cursor .made)
 Does m pr tick b b′ (Commit c a) = Puts pr × (pr .effect .tick ≡ 0)
     × (putIn (maxNodes m) (maxVersions m) b (pr .call .key) (ownVersion (pr .call)) ≡ answered b′ a)
+Does m pr tick b b′ (Show c x) = (b′ ≡ b) × (c .made ≡ pr .cursor .made) × Scans pr
 Does m pr tick b b′ (End a v e) = (b′ ≡ b) × Ending pr tick b a v e
 
 pub record Good (m : Memory) (g : Ghost) (i : ℕ) (pr : Process) (tick : ℕ) (b : Map) (v : Move) (m′ : Memory) : Type 0 where
@@ -91,6 +93,7 @@ pub get-no-put : (k : Kind) → T (isGet k) → T (isPut k) → ⊥
 get-no-put Idle g p = g
 get-no-put Put g p = g
 get-no-put Get g p = p
+get-no-put Scan g p = g
 
 get-no-climb : {pr : Process} → Gets pr → (x : ℕ) → ¬ (Climbs pr x)
 get-no-climb {pr} e x k = get-no-put (pr .call .kind) e (k .kind)
@@ -103,6 +106,7 @@ pub searches : (k : Kind) → k ≢ Idle → T (plays k Searching)
 searches Idle n = n refl
 searches Put n = tt
 searches Get n = tt
+searches Scan n = tt
 
 module _ (m : Memory) (g : Ghost) (b : Map) (N : Nodes m g) (B : Book m b) where
   pub link-in : {l p k : ℕ} → At m g l p k → next (m .nodes) l p ≢ 0
@@ -222,6 +226,8 @@ module _ (m : Memory) (g : Ghost) (i : ℕ) (pr : Process) (tick : ℕ) (b : Map
       (risen-alike (alike-refl m g) (λ y _ k. absurd (get-no-climb (rw ek tt) y k))))
       (λ ne. let f = h .1 ne in notes (at c Read (c .level) x) refl
       (fits-at Read refl (rw ek tt) (record { low = el; used = f .used; pos = f .pos; key-is = f .key-is }, u .0)))
+  walked-good Scan found ek nn el q u h = notes (at c Follow (c .level) (c .pred)) refl
+      (fits-at Follow refl (rw ek tt) (el, (q .spot .used, lower q (omega arith) .up), u))
 
   descend-good : (found : ℕ) → call .kind ≢ Idle → PlacedOf m g pr → Unset (pr .effect) → Bottom found
       → Good m g i pr tick b (descend call c tick found) m

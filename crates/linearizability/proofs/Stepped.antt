@@ -1,60 +1,67 @@
 -- A step keeps the invariant of a run: it is refused as the observer expects, or its move is quiet, takes effect as the
 -- map's put, or ends the call with what the map answers.
 use Prim.Native.Nat.{ℕ, suc, _+_, _≤_, _<_}
-use mathlib.Core.Bool.{not, _&&_}
+use mathlib.Core.Bool.{true, not, _&&_}
 use mathlib.Core.List.{List, [], _∷_, _++_}
 use mathlib.Core.Logic.{_≢_, inl, inr}
 use mathlib.Core.Path.{_≡_, refl, sym, ap, _∙_, subst}
 use native.Mathlib.Omega.{arith}
-use lib.Dec.{T, eqb, leb, nleb→lt}
+use lib.Dec.{T, eqb, ltb, leb, ltb→lt, lt→ltb, nleb→lt}
 use lib.ListN.{length, getD, set, length-set, length-append}
 use lib.Seq.{getD-set-same, getD-set-other}
-use Rattle.linearizability.specs.Types.{Idle, Answer, Call, Cursor, Process, Version, Permit, Granted, Denied, Move, Refuse, Wait, Go, Note, Commit, End}
+use Rattle.linearizability.specs.Types.{Kind, Idle, Put, Get, Scan, Answer, Call, Cursor, Process, Version, Item, Permit, Granted, Denied, Move, Refuse, Wait, Go, Note, Commit, Show, End}
 use Rattle.model.specs.Choice.{if_then_else_}
 use Rattle.model.specs.Layout.{Memory, limits, levels}
 use Rattle.model.specs.Map.{Map, putIn, PutResult, Reply, getFrom, applied, Applied}
 use Rattle.model.specs.Map as Seq
-use Rattle.model.specs.Numbers.{answerNumber}
-use Rattle.model.specs.Roles.{isPut, isGet}
+use Rattle.model.specs.Numbers.{answerNumber, isCounted}
+use Rattle.model.specs.Roles.{isPut, isGet, isScan}
 use Rattle.model.specs.State.{idleProcess, noProcess, withEvent}
 use Rattle.model.specs.Phases.{Moved, moved, ownVersion, transitionOf}
 use Rattle.model.specs.Calls.{callFor, Store, stepPermit, processAfter, outcomeOf, counted, tallyAfter, evented, storeAfter, stepBy, stepOf}
-use Rattle.model.specs.Requests.{Operation, put, get, kindOf}
-use Rattle.model.specs.History.{Action, step, Invoked, Pending, no-call, has-call, pendingAt, isFree, due, Completed, finished}
-use Rattle.model.specs.Linearizability.{countedAt}
-use Rattle.model.proofs.Laws.{place-below, length-tally}
-use Rattle.model.proofs.Tests.{if-by, if-lt, if-eq, by-eq, is-true, eq→eqb}
-use Rattle.linearizability.proofs.Invariant.{Puts, Gets, Climbs}
+use Rattle.model.specs.Requests.{Operation, put, get, scan, kindOf, firstOf, lastOf}
+use Rattle.model.specs.History.{Action, step, Invoked, Pending, no-call, has-call, pendingAt, isFree, due, Sight, sightsAt, Completed, finished}
+use Rattle.model.specs.Linearizability.{countedAt, takesEffect}
+use Rattle.model.proofs.Laws.{length-tally}
+use Rattle.model.proofs.Tests.{if-by, if-eq, by-eq, and→, →and, T-absurd, T-true, is-true, eq→eqb}
+use Rattle.linearizability.proofs.Invariant.{Puts, Gets, Scans, Climbs}
 use Rattle.linearizability.proofs.Frame.{fits-kept}
 use Rattle.linearizability.proofs.Step.{Ending, Does, Good}
-use Rattle.linearizability.proofs.Transition.{transition-good}
+use Rattle.linearizability.proofs.Following.{Nears, Shows, ScanDoes}
+use Rattle.linearizability.proofs.Transition.{transition-good, transition-scans}
 use Rattle.linearizability.proofs.Locks.{Locked, step-locked}
-use Rattle.linearizability.proofs.Effects.{Took, nothing, took, fed, played, nothing≢took, grows-on, Entered, entered-grow, entered-now}
-use Rattle.linearizability.proofs.Live.{memory, slot, Core, keptOf, Hist, LiveFrom, event-hist, done-grow, slot-same, core-lawful, one-busy, none-busy, busy-set, kept-kind, kind≢idle, idle-free, has-injective, pending-same, pending-other}
-use Rattle.linearizability.proofs.Started.{due-denied, no-fault, granted≢denied, kept-start}
+use Rattle.linearizability.proofs.Effects.{Took, nothing, took, fed, played, nothing≢took, grows-on, Entered, ShownIn, EndedIn, shown-grow, entered-grow, entered-now}
+use Rattle.linearizability.proofs.Scanning.{Scanning, KeysStay, scanning-near, scanning-shown, scanning-ends}
+use Rattle.linearizability.proofs.Live.{memory, slot, Core, keptOf, Hist, LiveFrom, event-hist, done-grow, slot-same, core-lawful, one-busy, none-busy, busy-set, kept-kind, kind≢idle, idle-free, has-injective, pending-same, pending-other, sights-same, sights-other}
+use Rattle.linearizability.proofs.Started.{due-denied, no-fault, granted≢denied, kept-key, kept-last, kept-start}
 use Rattle.model.proofs.Seen.{Seen, isGranted, sawStep, seenDue, tickOf, unless}
 
 -- ---- the tally
 
-answered-few : (a : Answer) (l : List Completed) → countedAt (answerNumber a) l ≤ length l
+answered-few : (n : ℕ) (l : List Completed) → countedAt n l ≤ length l
 unfolding countedAt
-answered-few a [] = omega arith
-answered-few a (d ∷ l) =
-    let h = answered-few a l in
-    if-by (λ (k : ℕ). k + countedAt (answerNumber a) l ≤ suc (length l)) (eqb (answerNumber (d .told .answer)) (answerNumber a)) (λ t. omega arith) (λ t. omega arith)
+answered-few n [] = omega arith
+answered-few n (d ∷ l) =
+    let h = answered-few n l in
+    if-by (λ (k : ℕ). k + countedAt n l ≤ suc (length l)) (eqb (answerNumber (d .told .answer)) n) (λ t. omega arith) (λ t. omega arith)
 
 -- the tally after a finished call: far fewer calls were finished than a count holds
-tally-counts : (t : List ℕ) (ds : List Completed) (d : Completed) (a : Answer) → length t ≡ limits .tally → length ds < (limits .count)
-    → getD t (answerNumber (d .told .answer)) 0 ≡ countedAt (answerNumber (d .told .answer)) ds → getD t (answerNumber a) 0 ≡ countedAt (answerNumber a) ds
-    → getD (counted t (d .told .answer)) (answerNumber a) 0 ≡ countedAt (answerNumber a) (d ∷ ds)
+tally-counts : (t : List ℕ) (ds : List Completed) (d : Completed) → length t ≡ limits .tally → length ds < limits .count
+    → ((n : ℕ) → n < limits .tally → getD t n 0 ≡ countedAt n ds)
+    → (n : ℕ) → n < limits .tally → getD (counted t (d .told .answer)) n 0 ≡ countedAt n (d ∷ ds)
 unfolding counted countedAt
-tally-counts t ds d a l7 few e e′ =
+tally-counts t ds d l7 few e n lt =
     let p = answerNumber (d .told .answer) in
-    if-lt (λ (u : List ℕ). getD u (answerNumber a) 0 ≡ (if eqb p (answerNumber a) then 1 else 0) + countedAt (answerNumber a) ds) (getD t p 0) (limits .count)
-    (λ h. if-eq (λ (n : ℕ). getD (set t p (getD t p 0 + 1)) (answerNumber a) 0 ≡ n + countedAt (answerNumber a) ds) p (answerNumber a)
-    (λ q. rw (← q) (getD-set-same t p (getD t p 0 + 1) 0 (omega (arith, place-below (d .told .answer))) ∙ omega (arith, ap (λ (z : ℕ). getD t z 0) q)))
-    (λ q. getD-set-other t p (answerNumber a) (getD t p 0 + 1) 0 (λ z. q (sym z)) ∙ omega arith))
-    (λ h. absurd (omega (arith, answered-few (d .told .answer) ds)))
+    if-by (λ (u : List ℕ). getD u n 0 ≡ (if eqb p n then 1 else 0) + countedAt n ds) (isCounted (d .told .answer) && ltb (getD t p 0) (limits .count))
+    (λ h. let below = ltb→lt p (limits .tally) (and→ (isCounted (d .told .answer)) (ltb (getD t p 0) (limits .count)) h .0) in
+    if-eq (λ (k : ℕ). getD (set t p (getD t p 0 + 1)) n 0 ≡ k + countedAt n ds) p n
+    (λ q. rw (← q) (getD-set-same t p (getD t p 0 + 1) 0 (omega (arith, l7)) ∙ omega (arith, e p below)))
+    (λ q. getD-set-other t p n (getD t p 0 + 1) 0 (λ z. q (sym z)) ∙ omega (arith, e n lt)))
+    (λ h. if-eq (λ (k : ℕ). getD t n 0 ≡ k + countedAt n ds) p n
+    (λ q. absurd (T-absurd (isCounted (d .told .answer) && ltb (getD t p 0) (limits .count))
+    (→and (isCounted (d .told .answer)) (ltb (getD t p 0) (limits .count)) (lt→ltb p (limits .tally) (omega arith))
+    (lt→ltb (getD t p 0) (limits .count) (omega (arith, e p (omega arith), answered-few p ds)))) h))
+    (λ q. omega (arith, e n lt)))
 
 -- ---- what the map makes of the call that a process keeps
 
@@ -65,12 +72,14 @@ unfolding callFor applied
 put-applied K W b b′ (put k v t draw) n a is e =
     ap (λ (r : PutResult). record { map = r .map; reply = record { answer = r .answer; version = record { value = v; timestamp = t } } }) e
 put-applied K W b b′ (get k) n a is e = absurd is
+put-applied K W b b′ (scan first last) n a is e = absurd is
 
 get-applied : (K W : ℕ) (b : Map) (op : Operation) (n : ℕ) (r : Reply) → let call = callFor op n in
     T (isGet (call .kind)) → getFrom b (call .key) ≡ r → applied K W b op ≡ record { map = b; reply = r }
 unfolding callFor applied
 get-applied K W b (put k v t draw) n r is e = absurd is
 get-applied K W b (get k) n r is e = ap (λ (z : Reply). record { map = b; reply = z }) e
+get-applied K W b (scan first last) n r is e = absurd is
 
 -- ---- what a step needs: an event is due
 
@@ -213,12 +222,51 @@ module _ {from : List Took} {K W : ℕ} {w : Store} {h : Seen} (l : LiveFrom fro
             ∙ k .beyond j u;
       }
 
+  -- ---- what the call shows
+
+  scanned : Scanning K W (memory w) (l .eff) (has-call c₀) (pr .cursor .pred) (h .sights i)
+  scanned = subst (λ (c : Pending). Scanning K W (memory w) (l .eff) c (pr .cursor .pred) (h .sights i)) (al .has) (l .hist .scanning i)
+
+  scans : T (isScan (kindOf (c₀ .operation))) → Scans pr
+  scans t = rw kind-is t
+
+  key-is : pr .call .key ≡ firstOf (c₀ .operation)
+  key-is = ap (λ (c : Call). c .key) same ∙ kept-key (c₀ .operation) (c₀ .start)
+
+  last-is : pr .call .last ≡ lastOf (c₀ .operation)
+  last-is = ap (λ (c : Call). c .last) same ∙ kept-last (c₀ .operation) (c₀ .start)
+
+  -- nodes stay, whoever moves
+  keys-stay : {v : Move} {m : Memory} → Good (memory w) (l .g) i pr tick (l .b) v m → KeysStay (memory w) m
+  keys-stay G = let f = G .frame (suc i) (omega arith) .grown in (f .more, f .keys)
+
+  -- the process moves to node p′ and shows nothing
+  near : (x : Took) (m : Memory) (p′ : ℕ) → KeysStay (memory w) m → (Scans pr → Nears (memory w) (pr .call .key) (pr .cursor .pred) p′)
+      → Scanning K W m (l .eff ++ (x ∷ [])) (has-call c₀) p′ (h .sights i)
+  near x m p′ stay n = scanning-near K W (memory w) m stay (h .log) (l .eff) (step i) x even c₀ (pr .cursor .pred) p′ (h .sights i)
+      (λ t. rw (← key-is) (n (scans t))) scanned
+
+  -- the process moves to the node behind its own and shows it
+  shows : (m : Memory) (c : Cursor) (x : Item) → KeysStay (memory w) m → Scans pr → ScanDoes (memory w) pr (l .b) (Show c x)
+      → Scanning K W m (l .eff ++ (nothing ∷ [])) (has-call c₀) (c .pred) (record { item = x; tick = tickOf h } ∷ h .sights i)
+  shows m c x stay s d =
+      scanning-shown K W (memory w) m (l .g) (l .b) (l .eff) (l .core .nodes) (l .core .book) stay (h .log) (step i) even (l .hist .book-is)
+      c₀ (pr .cursor .pred) (c .pred) (tickOf h) x (h .sights i) (rw kind-is at s) (omega (arith, even, length-append (l .eff) (nothing ∷ [])))
+      (rw (← key-is, ← last-is) d) scanned
+
+  -- a put or a get ends
+  ends-with : (x : Took) (d : Completed) (op : Operation) → (T (isScan (kindOf op)) → ⊥) → EndedIn K W (l .eff ++ (x ∷ [])) d op
+  ends-with x d (put k v t draw) apart = tt
+  ends-with x d (get k) apart = tt
+  ends-with x d (scan first last) apart = absurd (apart tt)
+
   -- ---- the history
 
-  -- the call goes on, with the same arguments: x is what took effect
-  on-hist : (x : Took) (m : Memory) (q : Process) (b′ : Map) → length (m .nodes) ≡ length (w .nodes)
-      → length (m .versions) ≡ length (w .versions)
+  -- the call goes on, with the same arguments: x is what took effect, and `ss` what it has shown
+  on-hist : (x : Took) (m : Memory) (q : Process) (b′ : Map) (ss : ℕ → List Sight) → length (m .nodes) ≡ length (w .nodes)
+      → length (m .versions) ≡ length (w .versions) → KeysStay (memory w) m
       → b′ ≡ fed K W (l .b) x → q .call ≡ pr .call
+      → ((j : ℕ) → j ≢ i → ss j ≡ h .sights j) → Scanning K W m (l .eff ++ (x ∷ [])) (has-call c₀) (q .cursor .pred) (ss i)
       → (q .effect .tick ≢ 0 → Entered K W log′ (l .eff ++ (x ∷ [])) i c₀ (q .effect .tick) (record { answer = q .effect .answer; version = ownVersion (q .call) }))
       → ((n : ℕ) → pr .effect .tick ≡ suc n → q .effect .tick ≡ suc n)
       → ((n j : ℕ) (c : Invoked) → n ≡ length (h .log) → x ≡ took j c → (j ≡ i) × (c ≡ c₀) × (q .effect .tick ≡ suc n))
@@ -228,19 +276,22 @@ module _ {from : List Took} {K W : ℕ} {w : Store} {h : Seen} (l : LiveFrom fro
         limit = h .limit;
         log = log′;
         pending = h .pending;
+        sights = ss;
         starts = h .starts;
         completed = h .completed;
         queries = h .queries;
         faults = faults;
       }) b′ (l .eff ++ (x ∷ []))
-  on-hist x m q b′ nl vl be ec en keep now =
+  on-hist x m q b′ ss nl vl stay be ec other sc en keep now =
       let k = l .hist in
-      let s = slot-same K W w h (l .b) (l .eff) k (l .core .array) i i8 (step i) x m q (w .tally) (h .pending) (h .starts) (h .completed) faults b′ in
-      event-hist K W w h (l .b) (l .eff) k (l .core .array) i i8 (step i) x m q (w .tally) (h .pending) (h .starts) (h .completed) faults b′ (record {
+      let s = slot-same K W w h (l .b) (l .eff) k (l .core .array) i i8 (step i) x m q (w .tally) (h .pending) ss (h .starts) (h .completed) faults b′ in
+      event-hist K W w h (l .b) (l .eff) k (l .core .array) i i8 (step i) x m q (w .tally) (h .pending) ss (h .starts) (h .completed) faults b′ (record {
         K-same = nl;
         W-same = vl;
         map-is = be;
-        others = λ j ne. refl;
+        keys = stay;
+        others = λ j ne. (refl, other j ne);
+        scanning = rw (al .has) sc;
         track = record {
           same = ec ∙ k .track i .same;
           resting = λ e. absurd (busy (ap (λ (z : Call). z .kind) (sym ec) ∙ e));
@@ -250,7 +301,7 @@ module _ {from : List Took} {K W : ℕ} {w : Store} {h : Seen} (l : LiveFrom fro
               (has-injective (sym (al .has) ∙ e)) (en ne);
         };
         done =
-            done-grow K W w h (l .b) (l .eff) k (l .core .array) i i8 (step i) x m q (w .tally) (h .pending) (h .starts) (h .completed) faults b′;
+            done-grow K W w h (l .b) (l .eff) k (l .core .array) i i8 (step i) x m q (w .tally) (h .pending) ss (h .starts) (h .completed) faults b′;
         kept = λ n j c d. d;
         old = λ n c e f. inr (e, ap (λ (z : Process). z .effect .tick) s ∙ keep n f);
         now = λ n j c e f. let o = now n j c e f in inr (
@@ -276,6 +327,7 @@ module _ {from : List Took} {K W : ℕ} {w : Store} {h : Seen} (l : LiveFrom fro
   ending a v e = record {
     process = i;
     invoked = c₀;
+    shown = h .sights i;
     told = record {
       kind = pr .call .kind;
       answer = a;
@@ -294,6 +346,7 @@ module _ {from : List Took} {K W : ℕ} {w : Store} {h : Seen} (l : LiveFrom fro
     limit = h .limit;
     log = log′;
     pending = pendingAt (h .pending) i no-call;
+    sights = h .sights;
     starts = h .starts;
     completed = ending a v e ∷ h .completed;
     queries = h .queries;
@@ -307,28 +360,32 @@ module _ {from : List Took} {K W : ℕ} {w : Store} {h : Seen} (l : LiveFrom fro
     limit = h .limit;
     log = log′;
     pending = pendingAt (h .pending) i no-call;
+    sights = h .sights;
     starts = h .starts;
-    completed = finished c i (ending a v e .told) (tickOf h) (h .completed);
+    completed = finished c i (h .sights i) (ending a v e .told) (tickOf h) (h .completed);
     queries = h .queries;
     faults = faults;
   }) (sym (al .has))
 
   end-hist : (x : Took) (m : Memory) (b′ : Map) (a : Answer) (v : Version) (e : ℕ)
-      → length (m .nodes) ≡ length (w .nodes) → length (m .versions) ≡ length (w .versions) → b′ ≡ fed K W (l .b) x
-      → e ≤ tick → Entered K W log′ (l .eff ++ (x ∷ [])) i c₀ e (record { answer = a; version = v })
+      → length (m .nodes) ≡ length (w .nodes) → length (m .versions) ≡ length (w .versions) → KeysStay (memory w) m → b′ ≡ fed K W (l .b) x
+      → (takesEffect (c₀ .operation) ≡ true → (e ≤ tick) × Entered K W log′ (l .eff ++ (x ∷ [])) i c₀ e (record { answer = a; version = v }))
+      → EndedIn K W (l .eff ++ (x ∷ [])) (ending a v e) (c₀ .operation)
       → ((n : ℕ) → pr .effect .tick ≡ suc n → e ≡ suc n)
       → ((n j : ℕ) (c : Invoked) → n ≡ length (h .log) → x ≡ took j c → (j ≡ i) × (c ≡ c₀) × (e ≡ suc n))
       → Hist K W (evented w i (End a v e) m) (after-end a v e) b′ (l .eff ++ (x ∷ []))
   unfolding processAfter tallyAfter
-  end-hist x m b′ a v e nl vl be in-time en keep now =
+  end-hist x m b′ a v e nl vl stay be en without keep now =
       let k = l .hist in
       let d₀ = ending a v e in
       let idle = pendingAt (h .pending) i no-call in
-      event-hist K W w h (l .b) (l .eff) k (l .core .array) i i8 (step i) x m idleProcess (counted (w .tally) a) idle (h .starts) (d₀ ∷ h .completed) faults b′ (record {
+      event-hist K W w h (l .b) (l .eff) k (l .core .array) i i8 (step i) x m idleProcess (counted (w .tally) a) idle (h .sights) (h .starts) (d₀ ∷ h .completed) faults b′ (record {
         K-same = nl;
         W-same = vl;
         map-is = be;
-        others = λ j ne. pending-other (h .pending) i no-call j ne;
+        keys = stay;
+        others = λ j ne. (pending-other (h .pending) i no-call j ne, refl);
+        scanning = rw (pending-same (h .pending) i no-call) tt;
         track =
             record { same = ap keptOf (sym (pending-same (h .pending) i no-call)); resting = λ z. refl; begun = omega arith; entered = λ d e ne. absurd (ne refl) };
         done = (
@@ -337,16 +394,17 @@ module _ {from : List Took} {K W : ℕ} {w : Store} {h : Seen} (l : LiveFrom fro
             start = start-is;
             finish = tick-is;
             ended = omega (arith, length-append (h .log) (step i ∷ []));
-            in-time = omega (arith, tick-is);
-            entered = en;
+            effective = λ must. let q = en must in (omega (arith, q .0, tick-is), q .1);
+            showed = shown-grow K W (h .log) (l .eff) (step i) x even (c₀ .operation) (h .sights i) (scanned .0);
+            without = without;
           },
-          done-grow K W w h (l .b) (l .eff) k (l .core .array) i i8 (step i) x m idleProcess (counted (w .tally) a) idle (h .starts) (d₀ ∷ h .completed) faults b′,
+          done-grow K W w h (l .b) (l .eff) k (l .core .array) i i8 (step i) x m idleProcess (counted (w .tally) a) idle (h .sights) (h .starts) (d₀ ∷ h .completed) faults b′,
         );
         kept = λ n j c d. inr d;
         old = λ n c q f. inl (inl (refl, has-injective (sym (al .has) ∙ q), keep n f));
         now = λ n j c q f. let o = now n j c q f in inl (inl (sym (o .0), sym (o .1), o .2));
-        tally = λ q. tally-counts (w .tally) (h .completed) d₀ q (l .core .tally)
-            (omega (arith, k .counted, k .few, k .ticks, l .core .events, l .core .limit .1)) (k .tally a) (k .tally q);
+        tally = tally-counts (w .tally) (h .completed) d₀ (l .core .tally)
+            (omega (arith, k .counted, k .few, k .ticks, l .core .events, l .core .limit .1)) (k .tally);
         counted = omega (
           arith,
           k .counted,
@@ -370,58 +428,70 @@ module _ {from : List Took} {K W : ℕ} {w : Store} {h : Seen} (l : LiveFrom fro
   now-took e ee n j c en ex = (cc, cc, omega (arith, tick-is))
 
   -- nothing took effect
-  quiet-hist : (m : Memory) (q : Process) (b′ : Map) → length (m .nodes) ≡ length (w .nodes)
-      → length (m .versions) ≡ length (w .versions)
+  quiet-hist : (m : Memory) (q : Process) (b′ : Map) (ss : ℕ → List Sight) → length (m .nodes) ≡ length (w .nodes)
+      → length (m .versions) ≡ length (w .versions) → KeysStay (memory w) m
       → b′ ≡ l .b → q .call ≡ pr .call → q .effect ≡ pr .effect
+      → ((j : ℕ) → j ≢ i → ss j ≡ h .sights j) → Scanning K W m (l .eff ++ (nothing ∷ [])) (has-call c₀) (q .cursor .pred) (ss i)
       → Hist K W (record { state = withEvent (w .state) i (m .counts) q; nodes = m .nodes; versions = m .versions; tally = w .tally })
       (record {
         processes = h .processes;
         limit = h .limit;
         log = log′;
         pending = h .pending;
+        sights = ss;
         starts = h .starts;
         completed = h .completed;
         queries = h .queries;
         faults = faults;
       }) b′ (l .eff ++ (nothing ∷ []))
   unfolding fed
-  quiet-hist m q b′ nl vl be ec ee = on-hist nothing m q b′ nl vl be ec
+  quiet-hist m q b′ ss nl vl stay be ec ee other sc = on-hist nothing m q b′ ss nl vl stay be ec other sc
       (λ ne. rw (ec, ee) (entered-grow K W (h .log) (l .eff) (step i) nothing even (l .hist .track i .entered c₀ (al .has) (rw ee at ne))))
       (λ n e. rw ee e) (λ n j c e f. absurd (nothing≢took f))
 
   commit-hist : (m : Memory) (c : Cursor) (a : Answer) (b′ : Map) → length (m .nodes) ≡ length (w .nodes)
-      → length (m .versions) ≡ length (w .versions)
+      → length (m .versions) ≡ length (w .versions) → KeysStay (memory w) m → (Scans pr → ⊥)
       → Does (memory w) pr tick (l .b) b′ (Commit c a)
       → Hist K W (evented w i (Commit c a) m) (sawStep h i (outcomeOf tick (pr .call) (Commit c a))) b′ (l .eff ++ (took i c₀ ∷ []))
   unfolding sawStep outcomeOf processAfter tallyAfter fed
-  commit-hist m c a b′ nl vl d =
+  commit-hist m c a b′ nl vl stay apart d =
       let put : putIn K W (l .b) (pr .call .key) (ownVersion (pr .call)) ≡ Seq.answered b′ a = rw (l .hist .K-is, l .hist .W-is) at (d .2) in
-      on-hist (took i c₀) m (record { call = pr .call; cursor = c; effect = record { answer = a; tick = tick }; preds = pr .preds }) b′ nl vl
-      (fed-of (puts b′ a (d .0) put)) refl
+      on-hist (took i c₀) m (record { call = pr .call; cursor = c; effect = record { answer = a; tick = tick }; preds = pr .preds }) b′ (h .sights) nl vl stay
+      (fed-of (puts b′ a (d .0) put)) refl (λ j ne. refl) (near (took i c₀) m (c .pred) stay (λ s. absurd (apart s)))
       (λ ne. entered-cast (sym tick-is) refl (entered-now K W (h .log) (l .eff) (step i) (took i c₀) even i c₀
       (record { answer = a; version = ownVersion (pr .call) }) refl refl begun
       (reply-of (puts b′ a (d .0) put))))
       (λ n e. absurd (omega (arith, d .1))) (now-took tick refl)
 
-  -- a get, or a put whose effect is behind it
+  no-scan : (k : Kind) → T (isScan k) → (T (isPut k) → ⊥) × (T (isGet k) → ⊥)
+  no-scan Idle t = absurd t
+  no-scan Put t = absurd t
+  no-scan Get t = absurd t
+  no-scan Scan t = ((λ p. p), λ g. g)
+
+  -- a get, a put whose effect is behind it, or a scan
   end-live : (m : Memory) (a : Answer) (v : Version) (e : ℕ) (G : Good (memory w) (l .g) i pr tick (l .b) (End a v e) m)
-      → Locked (memory w) i tick pr (moved m (End a v e))
+      → Locked (memory w) i tick pr (moved m (End a v e)) → (Scans pr → ScanDoes (memory w) pr (l .b) (End a v e))
       → Ending pr tick (l .b) a v e
       → LiveFrom from K W (evented w i (End a v e) m) (after-end a v e)
   unfolding fed
-  end-live m a v e G lk (inl d) = record {
+  end-live m a v e G lk sd (inl d) = record {
     g = G .g′;
     b = G .b′;
     eff = l .eff ++ (took i c₀ ∷ []);
     grows = grows-on from (l .eff) (took i c₀) (l .grows);
     core = step-core (End a v e) m G lk;
-    hist = end-hist (took i c₀) m (G .b′) a v e (G .node-words) (G .version-words)
-        (G .does .0 ∙ fed-of (gets (record { answer = a; version = v }) (d .0) (d .3))) (omega (arith, d .2))
-        (entered-cast (sym (d .2 ∙ tick-is)) refl (entered-now K W (h .log) (l .eff) (step i) (took i c₀) even i c₀ (record { answer = a; version = v }) refl refl begun
-        (reply-of (gets (record { answer = a; version = v }) (d .0) (d .3)))))
+    hist = end-hist (took i c₀) m (G .b′) a v e (G .node-words) (G .version-words) (keys-stay G)
+        (G .does .0 ∙ fed-of (gets (record { answer = a; version = v }) (d .0) (d .3)))
+        (λ must. (
+          omega (arith, d .2),
+          entered-cast (sym (d .2 ∙ tick-is)) refl (entered-now K W (h .log) (l .eff) (step i) (took i c₀) even i c₀ (record { answer = a; version = v }) refl refl begun
+              (reply-of (gets (record { answer = a; version = v }) (d .0) (d .3)))),
+        ))
+        (ends-with (took i c₀) (ending a v e) (c₀ .operation) (λ t. no-scan (pr .call .kind) (scans t) .1 (d .0)))
         (λ n q. absurd (omega (arith, d .1))) (now-took e (d .2));
   }
-  end-live m a v e G lk (inr d) =
+  end-live m a v e G lk sd (inr (inl d)) =
       let en = l .hist .track i .entered c₀ (al .has) (d .1) in
       record {
         g = G .g′;
@@ -429,50 +499,88 @@ module _ {from : List Took} {K W : ℕ} {w : Store} {h : Seen} (l : LiveFrom fro
         eff = l .eff ++ (nothing ∷ []);
         grows = grows-on from (l .eff) (nothing) (l .grows);
         core = step-core (End a v e) m G lk;
-        hist =
-            end-hist nothing m (G .b′) a v e (G .node-words) (G .version-words) (G .does .0) (omega (arith, d .2, en .tick-is, en .within, even, tick-is))
-            (entered-cast (sym (d .2)) (rw (d .3, d .4) refl) (entered-grow K W (h .log) (l .eff) (step i) nothing even en))
+        hist = end-hist nothing m (G .b′) a v e (G .node-words) (G .version-words) (keys-stay G) (G .does .0)
+            (λ must. (
+              omega (arith, d .2, en .tick-is, en .within, even, tick-is),
+              entered-cast (sym (d .2)) (rw (d .3, d .4) refl) (entered-grow K W (h .log) (l .eff) (step i) nothing even en),
+            ))
+            (ends-with nothing (ending a v e) (c₀ .operation) (λ t. no-scan (pr .call .kind) (scans t) .0 (d .0)))
             (λ n q. d .2 ∙ q) (λ n j c q f. absurd (nothing≢took f));
       }
+  end-live m a v e G lk sd (inr (inr d)) =
+      let is : T (isScan (kindOf (c₀ .operation))) = rw kind-is at (d .0) in
+      record {
+        g = G .g′;
+        b = G .b′;
+        eff = l .eff ++ (nothing ∷ []);
+        grows = grows-on from (l .eff) (nothing) (l .grows);
+        core = step-core (End a v e) m G lk;
+        hist = end-hist nothing m (G .b′) a v e (G .node-words) (G .version-words) (keys-stay G) (G .does .0)
+            (λ must. absurd (T-absurd (takesEffect (c₀ .operation)) (T-true must) (no-effect (c₀ .operation) is)))
+            (scanning-ends K W (memory w) m (l .g) (l .b) (l .eff) (l .core .nodes) (l .core .book) (keys-stay G) (h .log) (step i) even (l .hist .book-is)
+            (ending a v e) (pr .cursor .pred) is (rw (d .3, d .4) refl) (d .2) (λ ne. rw (← last-is) (sd (d .0) ne)) scanned)
+            (λ n q. absurd (omega (arith, d .1))) (λ n j c q f. absurd (nothing≢took f));
+      }
+    where
+      no-effect : (op : Operation) → T (isScan (kindOf op)) → T (not (takesEffect op))
+      no-effect (put k v t draw) is = absurd is
+      no-effect (get k) is = absurd is
+      no-effect (scan first last) is = tt
+
+  -- nothing took effect, and the process goes to node p′ or stays
+  quiet-live : (v : Move) (m : Memory) (q : Process) (ss : ℕ → List Sight) (G : Good (memory w) (l .g) i pr tick (l .b) v m)
+      → Core (record { state = withEvent (w .state) i (m .counts) q; nodes = m .nodes; versions = m .versions; tally = w .tally }) (G .g′) (G .b′)
+      → G .b′ ≡ l .b → q .call ≡ pr .call → q .effect ≡ pr .effect
+      → ((j : ℕ) → j ≢ i → ss j ≡ h .sights j) → Scanning K W m (l .eff ++ (nothing ∷ [])) (has-call c₀) (q .cursor .pred) (ss i)
+      → LiveFrom from K W (record { state = withEvent (w .state) i (m .counts) q; nodes = m .nodes; versions = m .versions; tally = w .tally })
+      (record {
+        processes = h .processes;
+        limit = h .limit;
+        log = log′;
+        pending = h .pending;
+        sights = ss;
+        starts = h .starts;
+        completed = h .completed;
+        queries = h .queries;
+        faults = faults;
+      })
+  quiet-live v m q ss G core be ec ee other sc = record {
+    g = G .g′;
+    b = G .b′;
+    eff = l .eff ++ (nothing ∷ []);
+    grows = grows-on from (l .eff) nothing (l .grows);
+    core = core;
+    hist = quiet-hist m q (G .b′) ss (G .node-words) (G .version-words) (keys-stay G) be ec ee other sc;
+  }
 
   move-live : (v : Move) (m : Memory) → Good (memory w) (l .g) i pr tick (l .b) v m → Locked (memory w) i tick pr (moved m v)
+      → (Scans pr → ScanDoes (memory w) pr (l .b) v)
       → LiveFrom from K W (storeAfter w i v m) (sawStep h i (outcomeOf tick (pr .call) v))
   unfolding processAfter tallyAfter outcomeOf sawStep
-  move-live Refuse m G lk = absurd (G .does)
-  move-live Wait m G lk = record {
-    g = G .g′;
-    b = G .b′;
-    eff = l .eff ++ (nothing ∷ []);
-    grows = grows-on from (l .eff) (nothing) (l .grows);
-    core = step-core Wait m G lk;
-    hist = quiet-hist m pr (G .b′) (G .node-words) (G .version-words) (G .does) refl refl;
-  }
-  move-live (Go c) m G lk = record {
-    g = G .g′;
-    b = G .b′;
-    eff = l .eff ++ (nothing ∷ []);
-    grows = grows-on from (l .eff) (nothing) (l .grows);
-    core = step-core (Go c) m G lk;
-    hist = quiet-hist m (processAfter tick pr (Go c)) (G .b′) (G .node-words) (G .version-words) (G .does .0) refl refl;
-  }
-  move-live (Note c) m G lk = record {
-    g = G .g′;
-    b = G .b′;
-    eff = l .eff ++ (nothing ∷ []);
-    grows = grows-on from (l .eff) (nothing) (l .grows);
-    core = step-core (Note c) m G lk;
-    hist = quiet-hist m (processAfter tick pr (Note c)) (G .b′) (G .node-words) (G .version-words) (G .does .0) refl refl;
-  }
-  move-live (Commit c a) m G lk = record {
+  move-live Refuse m G lk sd = absurd (G .does)
+  move-live Wait m G lk sd = quiet-live Wait m pr (h .sights) G (step-core Wait m G lk) (G .does) refl refl (λ j ne. refl)
+      (near nothing m (pr .cursor .pred) (keys-stay G) (λ s. absurd (sd s)))
+  move-live (Go c) m G lk sd =
+      quiet-live (Go c) m (processAfter tick pr (Go c)) (h .sights) G (step-core (Go c) m G lk) (G .does .0) refl refl (λ j ne. refl)
+      (near nothing m (c .pred) (keys-stay G) sd)
+  move-live (Note c) m G lk sd =
+      quiet-live (Note c) m (processAfter tick pr (Note c)) (h .sights) G (step-core (Note c) m G lk) (G .does .0) refl refl (λ j ne. refl)
+      (near nothing m (c .pred) (keys-stay G) sd)
+  move-live (Commit c a) m G lk sd = record {
     g = G .g′;
     b = G .b′;
     eff = l .eff ++ (took i c₀ ∷ []);
     grows = grows-on from (l .eff) (took i c₀) (l .grows);
     core = step-core (Commit c a) m G lk;
-    hist = commit-hist m c a (G .b′) (G .node-words) (G .version-words) (G .does);
+    hist = commit-hist m c a (G .b′) (G .node-words) (G .version-words) (keys-stay G) sd (G .does);
   }
-  move-live (End a v e) m G lk =
-      subst (λ (s : Seen). LiveFrom from K W (evented w i (End a v e) m) s) (saw-end a v e) (end-live m a v e G lk (G .does .1))
+  move-live (Show c x) m G lk sd =
+      let s : Sight = record { item = x; tick = tickOf h } in
+      quiet-live (Show c x) m (processAfter tick pr (Show c x)) (sightsAt (h .sights) i (s ∷ h .sights i)) G (step-core (Show c x) m G lk)
+      (G .does .0) refl refl (λ j ne. sights-other (h .sights) i (s ∷ h .sights i) j ne)
+      (rw (sights-same (h .sights) i (s ∷ h .sights i)) (shows m c x (keys-stay G) (G .does .2) (sd (G .does .2))))
+  move-live (End a v e) m G lk sd =
+      subst (λ (s : Seen). LiveFrom from K W (evented w i (End a v e) m) s) (saw-end a v e) (end-live m a v e G lk sd (G .does .1))
 
   pub granted-live : LiveFrom from K W (storeAfter w i (transitionOf (i + 1) tick pr (memory w) .move) (transitionOf (i + 1) tick pr (memory w) .memory))
       (sawStep h i (outcomeOf tick (pr .call) (transitionOf (i + 1) tick pr (memory w) .move)))
@@ -481,6 +589,7 @@ module _ {from : List Took} {K W : ℕ} {w : Store} {h : Seen} (l : LiveFrom fro
       let r = transitionOf (i + 1) tick pr (memory w) in
       move-live (r .move) (r .memory) (transition-good (memory w) (l .g) i pr tick (l .b) (k .nodes) (k .book) (omega arith) (k .fits i) busy)
       (step-locked (memory w) i tick pr (k .nodes .size) (k .nodes .room) (k .locks i) (basic .0) (basic .1) busy)
+      (transition-scans (memory w) (l .g) i pr tick (l .b) (k .nodes) (k .book) (k .fits i) busy)
     where
       basic : (pr .cursor .level < levels) × (pr .cursor .pred ≤ w .state .counts .nodes)
       basic =

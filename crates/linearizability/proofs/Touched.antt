@@ -5,7 +5,7 @@ use mathlib.Core.Logic.{inl, inr}
 use mathlib.Core.Path.{_≡_, refl, _∙_}
 use native.Mathlib.Omega.{arith}
 use lib.Dec.{T, eqb, ltb, leb, leb→le}
-use Rattle.linearizability.specs.Types.{Phase, Walk, Read, Seek, Lock, Check, Update, Make, Link, Release, Call, Cursor, Process, Ahead, Unused, Less, Equal, Past, Move, Refuse, Wait, Go, Note, Commit, End, Permit, Granted, Denied}
+use Rattle.linearizability.specs.Types.{Phase, Walk, Read, Seek, Lock, Check, Update, Make, Link, Release, Follow, Call, Cursor, Process, Ahead, Unused, Less, Equal, Past, Move, Refuse, Wait, Go, Note, Commit, Show, End, Permit, Granted, Denied}
 use Rattle.model.specs.Layout.{Memory, topLevel, word, field, newest, next, lock, timestamp, withNext, withNode, nodeWords, linkAt, lockAt}
 use Rattle.model.specs.State.{processAt, memoryOf}
 use Rattle.model.specs.Phases.{Moved, moved, refuses, ownVersion, usedNode, usedVersion, maxNodes, maxVersions, withHolder, lockOf, checkBy, checkOf, addVersion, updateNode, updateAt, updateOf, addNode, makeOf, addLink, linkOf, freed, releaseOf, lawfulProcess, phaseOf, transitionOf, released, aheadOf}
@@ -107,6 +107,7 @@ phase-spares Make holder tick p m low = make-spares (p .cursor) m low (p .call)
 phase-spares Link holder tick p m low = link-spares (p .cursor) m low
 phase-spares Release holder tick p m low =
     release-spares (p .cursor) m low (released (p .call) (p .cursor) (p .effect) (p .preds) m)
+phase-spares Follow holder tick p m low = untouched Follow (p .cursor) m
 
 pub transition-spares : (holder tick : ℕ) (p : Process) (m : Memory)
     → Spares (p .cursor .phase) (p .cursor) m (transitionOf holder tick p m .memory)
@@ -144,4 +145,5 @@ step-spares w i =
     by-permit Granted (Go c) m k = unfold stepBy in (record { nodes = k .nodes; versions = k .versions })
     by-permit Granted (Note c) m k = unfold stepBy in (record { nodes = k .nodes; versions = k .versions })
     by-permit Granted (Commit c a) m k = unfold stepBy in (record { nodes = k .nodes; versions = k .versions })
+    by-permit Granted (Show c x) m k = unfold stepBy in (record { nodes = k .nodes; versions = k .versions })
     by-permit Granted (End a v e) m k = unfold stepBy in (record { nodes = k .nodes; versions = k .versions })

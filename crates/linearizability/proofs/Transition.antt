@@ -5,18 +5,19 @@ use mathlib.Core.Logic.{_≢_}
 use mathlib.Core.Path.{_≡_, sym, subst}
 use native.Mathlib.Omega.{arith}
 use lib.Dec.{T, eqb, leb, le→leb}
-use Rattle.linearizability.specs.Types.{Idle, Phase, Walk, Read, Seek, Lock, Check, Update, Make, Link, Release, Class, Inserted, OtherPut, Hit, Miss, None, Process}
+use Rattle.linearizability.specs.Types.{Idle, Phase, Walk, Read, Seek, Lock, Check, Update, Make, Link, Release, Follow, Class, Inserted, OtherPut, Hit, Miss, Scanned, None, Process}
 use Rattle.model.specs.Layout.{Memory, topLevel, levels}
 use Rattle.model.specs.Map.{Map}
-use Rattle.model.specs.Phases.{noEffect, lawfulEffect, lawfulAt, lawfulProcess, phaseOf, transitionOf}
+use Rattle.model.specs.Phases.{Moved, noEffect, lawfulEffect, lawfulAt, lawfulProcess, phaseOf, transitionOf}
 use Rattle.model.specs.Roles.{isPut, roleOf, plays, putClass, classOf, fromPut}
 use Rattle.model.proofs.Tests.{if-by, is-true, T-absurd, eq→eqb}
-use Rattle.linearizability.proofs.Invariant.{Ghost, Nodes, Book, At, Stage, StageOf, Settled, Ok, Fits}
+use Rattle.linearizability.proofs.Invariant.{Ghost, Nodes, Book, At, Stage, StageOf, Settled, Ok, Scans, Fits}
 use Rattle.linearizability.proofs.Step.{Result, walk-good, read-good, seek-good}
 use Rattle.linearizability.proofs.Locking.{lock-good, check-good, release-good}
 use Rattle.linearizability.proofs.Update.{update-good}
 use Rattle.linearizability.proofs.Make.{make-good}
 use Rattle.linearizability.proofs.Link.{link-good}
+use Rattle.linearizability.proofs.Following.{ScanDoes, follow-good, walk-scans, scan-by}
 
 module _ (m : Memory) (g : Ghost) (i : ℕ) (pr : Process) (tick : ℕ) (b : Map) (N : Nodes m g) (B : Book m b) where
   -- ---- the tests of every step
@@ -37,6 +38,7 @@ module _ (m : Memory) (g : Ghost) (i : ℕ) (pr : Process) (tick : ℕ) (b : Map
   ok-basic Make c = at-basic (c .0 .spot)
   ok-basic Link c = at-basic (c .0 .spot)
   ok-basic Release c = at-basic (c .0 .spot)
+  ok-basic Follow c = (omega (arith, c .0), c .1 .0)
 
   pub basic : Fits m g i pr → pr .call .kind ≢ Idle → Basic
   basic f nn = ok-basic (f .phase) (f .ok nn)
@@ -47,6 +49,7 @@ module _ (m : Memory) (g : Ghost) (i : ℕ) (pr : Process) (tick : ℕ) (b : Map
   settled-right OtherPut c = tt
   settled-right Hit c = c
   settled-right Miss c = c
+  settled-right Scanned c = c
 
   or-left : (a c : Bool) → T a → T (a || c)
   or-left true c t = tt
@@ -75,6 +78,7 @@ module _ (m : Memory) (g : Ghost) (i : ℕ) (pr : Process) (tick : ℕ) (b : Map
   effect-right Make c = stage-right (pr .cursor .level) (c .1)
   effect-right Link c = stage-right (pr .cursor .level) (c .1)
   effect-right Release c = settled-right (classOf (pr .effect .answer)) (c .3)
+  effect-right Follow c = eq→eqb (pr .effect .tick) 0 (c .2 .0)
 
   lawful : Fits m g i pr → pr .call .kind ≢ Idle → T (lawfulProcess pr m)
   unfolding lawfulProcess lawfulAt
@@ -109,10 +113,20 @@ module _ (m : Memory) (g : Ghost) (i : ℕ) (pr : Process) (tick : ℕ) (b : Map
       let u = stage₀ (c .3) (c .1) in make-good m g i pr tick b N B tp w (u .0) (u .1) (c .0) (c .2) (c .3) (c .4)
   phase-good Link tp ep nn w c = link-good m g i pr tick b N B w (c .0) (c .2) (c .4) (c .3) (c .1)
   phase-good Release tp ep nn w c = release-good m g i pr tick b N B w (c .1) (c .0) (c .2) (c .3)
+  phase-good Follow tp ep nn w c = follow-good m g i pr tick b N B w (c .0) (c .1) (c .2) .0
 
   pub transition-good : tick ≢ 0 → Fits m g i pr → pr .call .kind ≢ Idle → Result m g i pr tick b (transitionOf (i + 1) tick pr m)
   unfolding transitionOf
   transition-good tp f nn = if-by (Result m g i pr tick b) (lawfulProcess pr m)
       (λ t. subst (λ ph. Result m g i pr tick b (phaseOf ph (i + 1) tick pr m)) (sym (f .phase-is))
       (phase-good (f .phase) tp (f .phase-is) nn (f .role nn) (f .ok nn)))
+      (λ t. absurd (T-absurd (lawfulProcess pr m) (lawful f nn) t))
+
+  -- a scan's move comes nearer, shows, or ends
+  pub transition-scans : Fits m g i pr → pr .call .kind ≢ Idle → Scans pr → ScanDoes m pr b (transitionOf (i + 1) tick pr m .move)
+  unfolding transitionOf phaseOf
+  transition-scans f nn s = if-by (λ (r : Moved). ScanDoes m pr b (r .move)) (lawfulProcess pr m)
+      (λ t. subst (λ ph. ScanDoes m pr b (phaseOf ph (i + 1) tick pr m .move)) (sym (f .phase-is))
+      (scan-by (λ ph. Ok m g i pr ph → ScanDoes m pr b (phaseOf ph (i + 1) tick pr m .move)) (pr .call .kind) (f .phase) s (f .role nn)
+      (λ c. walk-scans m g i pr tick b N B s (c .0)) (λ c. follow-good m g i pr tick b N B s (c .0) (c .1) (c .2) .1) (f .ok nn)))
       (λ t. absurd (T-absurd (lawfulProcess pr m) (lawful f nn) t))
