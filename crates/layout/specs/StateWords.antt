@@ -1,4 +1,4 @@
--- The state as words, and words as a state: the head, then eight processes of nineteen words each.
+-- The state as words, and words as a state: the head, then eight processes of twenty-one words each.
 use Prim.Native.Nat.{ℕ, zero, suc, _+_, _*_}
 use mathlib.Core.Bool.{Bool, true, false, _&&_}
 use mathlib.Core.List.{List, [], _∷_, _++_}

@@ -3,4 +3,4 @@ pub use Rattle.model.specs.declared.types.Call.{Call}
 pub use Rattle.model.specs.declared.types.Counts.{Counts}
 pub use Rattle.model.specs.declared.types.Cursor.{Cursor}
 pub use Rattle.model.specs.declared.types.Move.{Move}
-pub use Rattle.model.specs.declared.types.Move.the-variants.{Refuse, Wait, Go, Note, Commit, End}
+pub use Rattle.model.specs.declared.types.Move.the-variants.{Refuse, Wait, Go, Note, Commit, Show, End}

@@ -1,11 +1,12 @@
 // The moves that carry a cursor, the test for the one that refuses, and the step of a put that writes nothing.
 ghost use mathlib.Core.Path.{_≡_};
 ghost use Rattle.model.specs.Phases.{at, committed, refuses};
-ghost use Rattle.phases.specs.Types.{Go, Note};
+ghost use Rattle.phases.specs.Types.{Go, Note, Show};
 use crate::types::Transition;
 use model::types::Answer;
 use model::types::Counts;
 use model::types::Cursor;
+use model::types::Item;
 use model::types::Move;
 use model::types::Phase;
 
@@ -33,6 +34,21 @@ pub fn note(c: Cursor, phase: Phase, level: u32, pred: u32) -> Move
     })
 }
 
+// A scan's cursor moves to a node, which is shown.
+pub fn show(c: Cursor, node: u32, item: Item) -> Move
+    ensures { λ r. ⌜ r ≡ Show (at c Phase.Follow (c .level) node) item ⌝ }
+{
+    Move::Show(
+        Cursor {
+            phase: Phase::Follow,
+            level: c.level,
+            pred: node,
+            made: c.made,
+        },
+        item,
+    )
+}
+
 // The put takes effect and goes to release.
 pub fn commit(c: Cursor, made: u32, answer: Answer) -> Move
     ensures { λ r. ⌜ r ≡ committed c made answer ⌝ }
@@ -57,6 +73,7 @@ pub fn is_refusal(m: Move) -> bool
         Move::Go(_) => false,
         Move::Note(_) => false,
         Move::Commit(_, _) => false,
+        Move::Show(_, _) => false,
         Move::End(_, _, _) => false,
     }
 }

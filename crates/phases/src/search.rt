@@ -43,6 +43,7 @@ fn descend(call: Call, c: Cursor, tick: u32, found: u32) -> Move
                     note(c, Phase::Read, c.level, found)
                 }
             }
+            Kind::Scan => note(c, Phase::Follow, c.level, c.pred),
         }
     } else {
         note(c, Phase::Walk, c.level - 1, c.pred)

@@ -1,4 +1,4 @@
--- One process as nineteen words, and words as a process: call, cursor, effect, then the node remembered at each level.
+-- One process as twenty-one words, and words as a process: call, cursor, effect, then the node remembered at each level.
 use Prim.Native.Nat.{ℕ}
 use mathlib.Core.Bool.{Bool, _&&_}
 use mathlib.Core.List.{List, [], _∷_, _++_}
@@ -14,7 +14,7 @@ use Rattle.process.specs.declared.types.Sizes.{Sizes}
 use Rattle.process.specs.declared.types.ProcessOffsets.{ProcessOffsets}
 
 abbrev pub sizes : Sizes
-sizes = record { version = 2; head = 9; process = 19; state = 161 }
+sizes = record { version = 3; head = 9; process = 21; state = 177 }
 
 -- where each word of a process stands: its call, cursor and effect, and the node remembered at level 0, then at the others
 abbrev pub processOffsets : ProcessOffsets
@@ -22,23 +22,27 @@ processOffsets = record {
   kind = 0;
   keylow = 1;
   keyhigh = 2;
-  value = 3;
-  timestamp = 4;
-  top = 5;
-  start = 6;
-  phase = 7;
-  level = 8;
-  pred = 9;
-  made = 10;
-  answer = 11;
-  tick = 12;
-  preds = 13;
+  lastlow = 3;
+  lasthigh = 4;
+  value = 5;
+  timestamp = 6;
+  top = 7;
+  start = 8;
+  phase = 9;
+  level = 10;
+  pred = 11;
+  made = 12;
+  answer = 13;
+  tick = 14;
+  preds = 15;
 }
 
 -- ---- encode
 
 abbrev pub callWords : Call → List ℕ
-callWords c = kindNumber (c .kind) ∷ lowHalf (c .key) ∷ highHalf (c .key) ∷ c .value ∷ c .timestamp ∷ c .top ∷ c .start ∷ []
+callWords c =
+    kindNumber (c .kind) ∷ lowHalf (c .key) ∷ highHalf (c .key) ∷ lowHalf (c .last) ∷ highHalf (c .last) ∷ c .value ∷ c .timestamp
+    ∷ c .top ∷ c .start ∷ []
 
 abbrev pub cursorWords : Cursor → List ℕ
 cursorWords c = phaseNumber (c .phase) ∷ c .level ∷ c .pred ∷ c .made ∷ []
@@ -56,6 +60,7 @@ processFrom w = record {
   call = record {
     kind = kindFrom (getD w (processOffsets .kind) 0);
     key = joined (getD w (processOffsets .keylow) 0) (getD w (processOffsets .keyhigh) 0);
+    last = joined (getD w (processOffsets .lastlow) 0) (getD w (processOffsets .lasthigh) 0);
     value = getD w (processOffsets .value) 0;
     timestamp = getD w (processOffsets .timestamp) 0;
     top = getD w (processOffsets .top) 0;
@@ -76,5 +81,6 @@ processFrom w = record {
 -- kind, phase and answer have a number. "All words are 32 bits.": so the low half of a key is told from the high one
 abbrev pub knownProcess : List ℕ → Bool
 knownProcess w =
-    ltb (getD w (processOffsets .keylow) 0) wordSize && ltb (getD w (processOffsets .kind) 0) (length kinds)
+    ltb (getD w (processOffsets .keylow) 0) wordSize && ltb (getD w (processOffsets .lastlow) 0) wordSize
+    && ltb (getD w (processOffsets .kind) 0) (length kinds)
     && ltb (getD w (processOffsets .phase) 0) (length phases) && ltb (getD w (processOffsets .answer) 0) (length answers)

@@ -1,3 +1,3 @@
-// One process in nineteen words: its parts tested, read and written in place.
+// One process in twenty-one words: its parts tested, read and written in place.
 pub mod types;
 pub mod words;

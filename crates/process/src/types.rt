@@ -11,13 +11,13 @@ pub struct Sizes {
 
 impl Sizes {
     // The layout's own number, word 0. Another layout has another.
-    pub const VERSION: u32 = 2;
+    pub const VERSION: u32 = 3;
     // Words before the first process.
     pub const HEAD: usize = 9;
 
-    pub const PROCESS: usize = 19;
+    pub const PROCESS: usize = 21;
 
-    pub const STATE: usize = 161;
+    pub const STATE: usize = 177;
 
     // Never called: it ties the constants to the definitions.
     pub fn words() -> Self
@@ -37,6 +37,8 @@ pub struct ProcessOffsets {
     pub kind: usize,
     pub keylow: usize,
     pub keyhigh: usize,
+    pub lastlow: usize,
+    pub lasthigh: usize,
     pub value: usize,
     pub timestamp: usize,
     pub top: usize,
@@ -57,27 +59,31 @@ impl ProcessOffsets {
 
     pub const KEY_HIGH: usize = 2;
 
-    pub const VALUE: usize = 3;
+    pub const LAST_LOW: usize = 3;
 
-    pub const TIMESTAMP: usize = 4;
+    pub const LAST_HIGH: usize = 4;
 
-    pub const TOP: usize = 5;
+    pub const VALUE: usize = 5;
 
-    pub const START: usize = 6;
+    pub const TIMESTAMP: usize = 6;
 
-    pub const PHASE: usize = 7;
+    pub const TOP: usize = 7;
 
-    pub const LEVEL: usize = 8;
+    pub const START: usize = 8;
 
-    pub const PRED: usize = 9;
+    pub const PHASE: usize = 9;
 
-    pub const MADE: usize = 10;
+    pub const LEVEL: usize = 10;
 
-    pub const ANSWER: usize = 11;
+    pub const PRED: usize = 11;
 
-    pub const TICK: usize = 12;
+    pub const MADE: usize = 12;
 
-    pub const PREDS: usize = 13;
+    pub const ANSWER: usize = 13;
+
+    pub const TICK: usize = 14;
+
+    pub const PREDS: usize = 15;
 
     // Never called: it ties the constants to the definitions.
     pub fn words() -> Self
@@ -87,6 +93,8 @@ impl ProcessOffsets {
             kind: Self::KIND,
             keylow: Self::KEY_LOW,
             keyhigh: Self::KEY_HIGH,
+            lastlow: Self::LAST_LOW,
+            lasthigh: Self::LAST_HIGH,
             value: Self::VALUE,
             timestamp: Self::TIMESTAMP,
             top: Self::TOP,

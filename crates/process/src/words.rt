@@ -1,10 +1,11 @@
-// One process in its nineteen words.
+// One process in its twenty-one words.
 ghost use mathlib.Core.Path.{_≡_};
 ghost use lib.ListN.{length};
 ghost use Rattle.process.specs.ProcessWords.{sizes, processOffsets, callWords, cursorWords, effectWords, processWords, processFrom, knownProcess};
 ghost use lib.Seq.{sets};
 use crate::types::ProcessOffsets;
 use crate::types::Sizes;
+use model::types::Answer;
 use model::types::Call;
 use model::types::Cursor;
 use model::types::Effect;
@@ -29,6 +30,7 @@ pub fn call_in(w: &[u32]) -> Call
     Call {
         kind: kind_from(w[ProcessOffsets::KIND]),
         key: joined(w[ProcessOffsets::KEY_LOW], w[ProcessOffsets::KEY_HIGH]),
+        last: joined(w[ProcessOffsets::LAST_LOW], w[ProcessOffsets::LAST_HIGH]),
         value: w[ProcessOffsets::VALUE],
         timestamp: w[ProcessOffsets::TIMESTAMP],
         top: w[ProcessOffsets::TOP],
@@ -99,7 +101,7 @@ pub fn is_process(w: &[u32]) -> bool
     if Phase::PHASES <= w[ProcessOffsets::PHASE] {
         return false;
     }
-    w[ProcessOffsets::ANSWER] < State::TALLY
+    w[ProcessOffsets::ANSWER] < Answer::ANSWERS
 }
 
 // A process by value in its words.
@@ -117,6 +119,8 @@ pub fn words_of(p: Process) -> [u32; Sizes::PROCESS]
         kind_number(kind),
         low_half(call.key),
         high_half(call.key),
+        low_half(call.last),
+        high_half(call.last),
         call.value,
         call.timestamp,
         call.top,
@@ -166,6 +170,8 @@ pub fn put_call(w: &mut [u32], c: Call)
     w[ProcessOffsets::KIND] = kind_number(kind);
     w[ProcessOffsets::KEY_LOW] = low_half(c.key);
     w[ProcessOffsets::KEY_HIGH] = high_half(c.key);
+    w[ProcessOffsets::LAST_LOW] = low_half(c.last);
+    w[ProcessOffsets::LAST_HIGH] = high_half(c.last);
     w[ProcessOffsets::VALUE] = c.value;
     w[ProcessOffsets::TIMESTAMP] = c.timestamp;
     w[ProcessOffsets::TOP] = c.top;

@@ -6,13 +6,13 @@ use mathlib.Core.Path.{_≡_, refl, sym, _∙_}
 use native.Mathlib.Numerals.{unary-clauses}
 use native.Mathlib.Omega.{arith}
 use borrow.Author.Tests.{leb-false, eqb-true, not-false}
-use lib.Dec.{leb, eqb}
+use lib.Dec.{leb, ltb, eqb}
 use lib.ListN.{length}
 use Rattle.model.specs.declared.types.Kind.{Kind}
 use Rattle.model.specs.declared.types.Permit.{Permit}
 use Rattle.model.specs.declared.types.Permit.the-variants.{Granted, Denied}
 use Rattle.model.specs.declared.types.Refusal.{Refusal}
-use Rattle.model.specs.declared.types.Refusal.the-variants.{Corrupt, NoProcess, BadKey, Busy, NoCall, Spent}
+use Rattle.model.specs.declared.types.Refusal.the-variants.{Corrupt, NoProcess, BadKey, BadRange, Busy, NoCall, Spent}
 use Rattle.model.specs.declared.types.State.{State}
 use Rattle.model.specs.Layout.{limits, nodeWords, versionWords, capacity}
 use Rattle.model.specs.State.{processAt, lawfulKey, lawfulNodes, lawfulVersions, lawfulLength, lawfulState, lawfulStore}
@@ -107,15 +107,15 @@ pub record MayStart (s : State) (nodes versions : List ℕ) (i : ℕ) : Type 0 w
   pub process : i < s .processes
   pub event : s .events < s .limit
 
-pub may-start : (s : State) (nodes versions : List ℕ) (i k : ℕ) {p : Permit} → p ≡ startPermit s nodes versions i k
+pub may-start : (s : State) (nodes versions : List ℕ) (i first last : ℕ) {p : Permit} → p ≡ startPermit s nodes versions i first last
     → p ≡ Granted → MayStart s nodes versions i
 unfolding startPermit
-may-start s nodes versions i k e g =
+may-start s nodes versions i first last e g =
     let f = simp granted-iff at (sym e ∙ g) in
     record {
       lawful = lawful-store s nodes versions (not-false _ (f .0));
       process = leb-false _ _ (f .1 .0);
-      event = leb-false _ _ (f .1 .1 .1 .1 .0);
+      event = leb-false _ _ (f .1 .1 .1 .1 .1 .0);
     }
 
 -- what a look and an inspection that are let pass may go by
@@ -176,15 +176,16 @@ module _
     (found : i < limits .processes → processAt s i .call .kind ≡ kind)
   where
     -- the permits with the kind that was found
-    pub start-kind : (k : ℕ) → startPermit s nodes versions i k
+    pub start-kind : (first last : ℕ) → startPermit s nodes versions i first last
         ≡ denyIf (not (lawfulStore s nodes versions)) Corrupt
         (denyIf (noSuch s i) NoProcess
-        (denyIf (not (lawfulKey k)) BadKey
+        (denyIf (not (lawfulKey first && lawfulKey last)) BadKey
+        (denyIf (ltb last first) BadRange
         (denyIf (not (isIdle kind)) Busy
         (denyIf (spent s) Spent
-        Granted))))
+        Granted)))))
     unfolding startPermit
-    start-kind k =
+    start-kind first last =
         after-ten-and-five (lawfulStore s nodes versions) (s .processes) i _ _
         (λ l j. let f = lawful-store s nodes versions l in simp (found (omega arith)))
 

@@ -1,4 +1,4 @@
-// The refusals of each call, in document 01's order: the first condition met decides. A local named by a number has that
+// The refusals of each call, in the papers' order: the first condition met decides. A local named by a number has that
 // refusal or one that comes before it.
 ghost use mathlib.Core.Path.{_≡_};
 ghost use Prim.Native.Nat.{_≤_};
@@ -60,21 +60,24 @@ pub fn start_permit(
     nodes: &[u32],
     versions: &[u32],
     process: u32,
-    key: Key,
+    first: Key,
+    last: Key,
 ) -> Permit
     requires { ⌜ length (now h) ≡ headerWords ⌝ }
     ensures { λ r. ⌜ ((s : State) → Agrees s process (now (h .entry)) kind → r
-        ≡ startPermit s (now (nodes .entry)) (now (versions .entry)) process key) ⌝ }
+        ≡ startPermit s (now (nodes .entry)) (now (versions .entry)) process first last) ⌝ }
 {
     let lawful = lawful_store(h, nodes, versions);
     let no_process = h[HeaderOffsets::PROCESSES] <= process;
-    let in_range = lawful_key(key);
+    let first_in_range = lawful_key(first);
+    let last_in_range = lawful_key(last);
     let idle = is_idle(kind);
     let spent = h[HeaderOffsets::LIMIT] <= h[HeaderOffsets::EVENTS];
     let ten = or_if(Permit::Granted, !lawful, Refusal::Corrupt);
     let five = or_if(ten, no_process, Refusal::NoProcess);
-    let six = or_if(five, !in_range, Refusal::BadKey);
-    let seven = or_if(six, !idle, Refusal::Busy);
+    let six = or_if(five, !(first_in_range & last_in_range), Refusal::BadKey);
+    let seventeen = or_if(six, last < first, Refusal::BadRange);
+    let seven = or_if(seventeen, !idle, Refusal::Busy);
     or_if(seven, spent, Refusal::Spent)
 }
 

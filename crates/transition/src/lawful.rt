@@ -45,6 +45,7 @@ fn lawful_effect(kind: Kind, role: Role, e: Effect) -> bool
             let answer = e.answer;
             from_put(answer)
         }
+        Role::Following => e.tick == 0,
     }
 }
 

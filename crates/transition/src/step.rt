@@ -1,4 +1,4 @@
-// The core: one step of one call, in the nineteen words of its process. Each phase reads what it needs of them.
+// The core: one step of one call, in the twenty-one words of its process. Each phase reads what it needs of them.
 ghost use mathlib.Core.Path.{_≡_};
 ghost use lib.ListN.{length};
 ghost use Rattle.model.specs.Phases.{phaseOf, transitionOf};
@@ -6,6 +6,7 @@ ghost use Rattle.tables.specs.Room.{Lent, memory};
 ghost use Rattle.phases.specs.Ready.{Ready, leaves};
 ghost use Rattle.process.specs.ProcessWords.{sizes, processFrom};
 use crate::lawful::lawful;
+use following::follow::follow;
 use inserting::insert::link;
 use inserting::insert::make;
 use locking::lock::acquire;
@@ -67,6 +68,7 @@ fn by_phase(
             let preds = preds_in(w);
             with(release(call_in(w), c, e, used, preds, nodes), counts)
         }
+        Phase::Follow => with(follow(call_in(w), c, counts, nodes, versions), counts),
     }
 }
 

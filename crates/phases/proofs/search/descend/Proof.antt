@@ -20,11 +20,17 @@ enum-told-3 c = search needs
 note-requires-2 : tie.Need-note-requires-2
 note-requires-2 c κs = search needs
 
-sub-note : tie.Need-sub-note
-sub-note c = search needs
+enum-told-4 : tie.Need-enum-told-4
+enum-told-4 c = search needs
 
 note-requires-3 : tie.Need-note-requires-3
 note-requires-3 c κs = search needs
+
+sub-note : tie.Need-sub-note
+sub-note c = search needs
+
+note-requires-4 : tie.Need-note-requires-4
+note-requires-4 c κs = search needs
 
 returns : tie.Need-returns
 unfolding descend walked
@@ -50,7 +56,11 @@ returns-4 c =
 
 returns-5 : tie.Need-returns-5
 unfolding descend walked
-returns-5 c = simp (c .note3 .ensures, ne-eqb _ _ (c .before .before .if1 .left))
+returns-5 c = simp (c .note3 .ensures, c .before .enum-told4 .given .1, eq-eqb _ _ (c .before .before .before .if1 .taken))
+
+returns-6 : tie.Need-returns-6
+unfolding descend walked
+returns-6 c = simp (c .note4 .ensures, ne-eqb _ _ (c .before .before .if1 .left))
 
 pub descend-spec : {M : Type 1} → statement M
 descend-spec =
@@ -61,10 +71,13 @@ descend-spec =
     note-requires
     enum-told-3
     note-requires-2
-    sub-note
+    enum-told-4
     note-requires-3
+    sub-note
+    note-requires-4
     returns
     returns-2
     returns-3
     returns-4
-    returns-5)
+    returns-5
+    returns-6)

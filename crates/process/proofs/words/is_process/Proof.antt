@@ -15,7 +15,7 @@ shared-slice-read-if1 c = search needs
 returns : tie.Need-returns
 returns c =
     let w = c .before .before .args .w .now in
-    simp (lt-ltb (getD w (processOffsets .keylow) 0) wordSize (omega (arith, c .before .shared-slice-known .given (processOffsets .keylow))), le-ltb (getD w (processOffsets .kind) 0) (length kinds) (omega arith))
+    simp (lt-ltb (getD w (processOffsets .keylow) 0) wordSize (omega (arith, c .before .shared-slice-known .given (processOffsets .keylow))), lt-ltb (getD w (processOffsets .lastlow) 0) wordSize (omega (arith, c .before .shared-slice-known .given (processOffsets .lastlow))), le-ltb (getD w (processOffsets .kind) 0) (length kinds) (omega arith))
 
 shared-slice-read-if2 : tie.Need-shared-slice-read-if2
 shared-slice-read-if2 c = search needs
@@ -23,7 +23,7 @@ shared-slice-read-if2 c = search needs
 returns-2 : tie.Need-returns-2
 returns-2 c =
     let w = c .before .before .before .before .args .w .now in
-    simp (lt-ltb (getD w (processOffsets .keylow) 0) wordSize (omega (arith, c .before .shared-slice-known2 .given (processOffsets .keylow))), lt-ltb (getD w (processOffsets .kind) 0) (length kinds) (omega arith), le-ltb (getD w (processOffsets .phase) 0) (length phases) (omega arith))
+    simp (lt-ltb (getD w (processOffsets .keylow) 0) wordSize (omega (arith, c .before .shared-slice-known2 .given (processOffsets .keylow))), lt-ltb (getD w (processOffsets .lastlow) 0) wordSize (omega (arith, c .before .shared-slice-known2 .given (processOffsets .lastlow))), lt-ltb (getD w (processOffsets .kind) 0) (length kinds) (omega arith), le-ltb (getD w (processOffsets .phase) 0) (length phases) (omega arith))
 
 shared-slice-read-result : tie.Need-shared-slice-read-result
 shared-slice-read-result c = search needs
@@ -31,7 +31,7 @@ shared-slice-read-result c = search needs
 returns-3 : tie.Need-returns-3
 returns-3 c =
     let w = c .before .before .before .before .before .args .w .now in
-    simp (lt-ltb (getD w (processOffsets .keylow) 0) wordSize (omega (arith, c .shared-slice-known3 .given (processOffsets .keylow))), lt-ltb (getD w (processOffsets .kind) 0) (length kinds) (omega arith), lt-ltb (getD w (processOffsets .phase) 0) (length phases) (omega arith))
+    simp (lt-ltb (getD w (processOffsets .keylow) 0) wordSize (omega (arith, c .shared-slice-known3 .given (processOffsets .keylow))), lt-ltb (getD w (processOffsets .lastlow) 0) wordSize (omega (arith, c .shared-slice-known3 .given (processOffsets .lastlow))), lt-ltb (getD w (processOffsets .kind) 0) (length kinds) (omega arith), lt-ltb (getD w (processOffsets .phase) 0) (length phases) (omega arith))
 
 pub is-process-spec : {M : Type 1} → statement M
 is-process-spec =

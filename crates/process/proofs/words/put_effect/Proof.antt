@@ -3,8 +3,8 @@ use borrow.Author.Needs.{needs}
 use Rattle.process.proofs.words.put_effect.Statement.{statement}
 use Rattle.process.proofs.words.put_effect.Tie as tie
 
-place-of-requires : tie.Need-place-of-requires
-place-of-requires c κs = search needs
+answer-number-requires : tie.Need-answer-number-requires
+answer-number-requires c κs = search needs
 
 slice-write-w : tie.Need-slice-write-w
 slice-write-w c = search needs
@@ -16,8 +16,8 @@ same-length : tie.Need-same-length
 same-length c = search needs
 
 returns : tie.Need-returns
-returns c = simp (c .place-of .ensures)
+returns c = simp (c .answer-number .ensures)
 
 pub put-effect-spec : {M : Type 1} → statement M
 put-effect-spec =
-    tie.close (tie.spec place-of-requires slice-write-w slice-write-w-2 same-length returns)
+    tie.close (tie.spec answer-number-requires slice-write-w slice-write-w-2 same-length returns)

@@ -18,40 +18,48 @@ low-half-requires c κs = search needs
 high-half-requires : tie.Need-high-half-requires
 high-half-requires c κs = search needs
 
+low-half-requires-2 : tie.Need-low-half-requires-2
+low-half-requires-2 c κs = search needs
+
+high-half-requires-2 : tie.Need-high-half-requires-2
+high-half-requires-2 c κs = search needs
+
 phase-number-requires : tie.Need-phase-number-requires
 phase-number-requires c κs = search needs
 
-place-of-requires : tie.Need-place-of-requires
-place-of-requires c κs = search needs
+answer-number-requires : tie.Need-answer-number-requires
+answer-number-requires c κs = search needs
 
-array-read-t16 : tie.Need-array-read-t16
-array-read-t16 c = search needs
+array-read-t18 : tie.Need-array-read-t18
+array-read-t18 c = search needs
 
-array-read-t19 : tie.Need-array-read-t19
-array-read-t19 c = search needs
+array-read-t21 : tie.Need-array-read-t21
+array-read-t21 c = search needs
 
-array-read-t22 : tie.Need-array-read-t22
-array-read-t22 c = search needs
+array-read-t24 : tie.Need-array-read-t24
+array-read-t24 c = search needs
 
-array-read-t25 : tie.Need-array-read-t25
-array-read-t25 c = search needs
+array-read-t27 : tie.Need-array-read-t27
+array-read-t27 c = search needs
 
-array-read-t28 : tie.Need-array-read-t28
-array-read-t28 c = search needs
+array-read-t30 : tie.Need-array-read-t30
+array-read-t30 c = search needs
 
-array-read-t31 : tie.Need-array-read-t31
-array-read-t31 c = search needs
+array-read-t33 : tie.Need-array-read-t33
+array-read-t33 c = search needs
 
 returns : tie.Need-returns
 returns c =
-    let p = c .before .before .before .before .before .before .before .before .before .args .p in
+    let p = c .before .before .before .before .before .before .before .before .before .before .before .args .p in
     let long : length (p .preds) ≡ levels = search needs in
     simp (
-      c .place-of .ensures,
+      c .answer-number .ensures,
       c .before .phase-number .ensures,
-      c .before .before .high-half .ensures,
-      c .before .before .before .low-half .ensures,
-      c .before .before .before .before .kind-number .ensures,
+      c .before .before .high-half2 .ensures,
+      c .before .before .before .low-half2 .ensures,
+      c .before .before .before .before .high-half .ensures,
+      c .before .before .before .before .before .low-half .ensures,
+      c .before .before .before .before .before .before .kind-number .ensures,
     )
     (ap (λ preds. callWords (p .call) ++ cursorWords (p .cursor) ++ effectWords (p .effect) ++ preds) (spelt levels (p .preds) long))
 
@@ -62,12 +70,14 @@ words-of-spec =
     kind-number-requires
     low-half-requires
     high-half-requires
+    low-half-requires-2
+    high-half-requires-2
     phase-number-requires
-    place-of-requires
-    array-read-t16
-    array-read-t19
-    array-read-t22
-    array-read-t25
-    array-read-t28
-    array-read-t31
+    answer-number-requires
+    array-read-t18
+    array-read-t21
+    array-read-t24
+    array-read-t27
+    array-read-t30
+    array-read-t33
     returns)

@@ -33,6 +33,9 @@ enum-told-4 c = search needs
 from-put-requires : tie.Need-from-put-requires
 from-put-requires c κs = search needs
 
+enum-told-5 : tie.Need-enum-told-5
+enum-told-5 c = search needs
+
 returns : tie.Need-returns
 returns c = simp (← c .before .before .is-put .ensures, c .before .if1 .taken, c .before .before .before .enum-told .given .1, c .suits-put .ensures)
 
@@ -48,6 +51,9 @@ returns-4 c = simp (c .before .enum-told3 .given .1, c .suits-put2 .ensures)
 returns-5 : tie.Need-returns-5
 returns-5 c = search needs
 
+returns-6 : tie.Need-returns-6
+returns-6 c = simp (c .before .enum-told5 .given .1)
+
 pub lawful-effect-spec : {M : Type 1} → statement M
 lawful-effect-spec =
     tie.close
@@ -60,8 +66,10 @@ lawful-effect-spec =
     suits-put-requires-2
     enum-told-4
     from-put-requires
+    enum-told-5
     returns
     returns-2
     returns-3
     returns-4
-    returns-5)
+    returns-5
+    returns-6)

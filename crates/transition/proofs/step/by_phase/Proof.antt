@@ -136,6 +136,21 @@ release-requires c κs =
 with-requires-7 : tie.Need-with-requires-7
 with-requires-7 c κs = search needs
 
+enum-told-10 : tie.Need-enum-told-10
+enum-told-10 c = search needs
+
+call-in-requires-7 : tie.Need-call-in-requires-7
+call-in-requires-7 c κs = search needs
+
+follow-requires : tie.Need-follow-requires
+follow-requires c κs =
+    let f = simp (← c .before .before .before .before .before .cursor-in .ensures) at (c .before .before .before .before .before .before .before .before .before .pre .1 .0) in
+    let l = c .before .before .before .before .before .before .before .before .before .pre .1 .1 in
+    search needs
+
+with-requires-8 : tie.Need-with-requires-8
+with-requires-8 c κs = search needs
+
 same-length : tie.Need-same-length
 same-length c = search needs
 
@@ -244,6 +259,20 @@ returns-9 c =
     phase-by q (c .before .before .before .before .before .call-in6 .result) (c .before .before .before .before .before .before .before .before .before .before .cursor-in .result) (c .before .before .before .before .before .before .before .effect-in .result) (c .before .before .before .before .before .before .preds-in .result) (a .holder) (a .tick) _ _ (c .before .before .before .before .before .call-in6 .ensures) (c .before .before .before .before .before .before .before .before .before .before .cursor-in .ensures) (c .before .before .before .before .before .before .before .effect-in .ensures) (c .before .before .before .before .before .before .preds-in .ensures)
     (simp (c .with7 .ensures .0, c .with7 .ensures .1, c .before .before .before .before .before .before .before .before .enum-told9 .given .1) (c .before .before .before .release .ensures (a .versions .now) (a .counts .versions)))
 
+same-length-13 : tie.Need-same-length-13
+same-length-13 c = search needs
+
+same-length-14 : tie.Need-same-length-14
+same-length-14 c = search needs
+
+returns-10 : tie.Need-returns-10
+unfolding phaseOf
+returns-10 c =
+    let a = c .before .before .before .before .before .before .before .before .before .before .before .args in
+    let q = processFrom (a .w .now) in
+    phase-by q (c .before .before .before .before .call-in7 .result) (c .before .before .before .before .before .before .before .cursor-in .result) (q .effect) (q .preds) (a .holder) (a .tick) _ _ (c .before .before .before .before .call-in7 .ensures) (c .before .before .before .before .before .before .before .cursor-in .ensures) refl refl
+    (simp (c .with8 .ensures .0, c .with8 .ensures .1, c .before .before .before .before .before .enum-told10 .given .1, c .before .follow .ensures))
+
 pub by-phase-spec : {M : Type 1} → statement M
 by-phase-spec =
     tie.close
@@ -282,6 +311,10 @@ by-phase-spec =
     call-in-requires-6
     release-requires
     with-requires-7
+    enum-told-10
+    call-in-requires-7
+    follow-requires
+    with-requires-8
     same-length
     returns
     same-length-2
@@ -302,4 +335,7 @@ by-phase-spec =
     same-length-11
     returns-8
     same-length-12
-    returns-9)
+    returns-9
+    same-length-13
+    same-length-14
+    returns-10)
