@@ -2,9 +2,10 @@
 use Prim.Native.Nat.{ℕ}
 use mathlib.Core.Bool.{_||_}
 use mathlib.Core.Path.{_≡_, refl}
+use Rattle.model.specs.Calls.{stepOf}
 use Rattle.model.proofs.Tests.{if-by}
 use Rattle.lines.specs.Outcomes.{openLine, startLine, stepLine, lookLine, inspectLine}
-use Rattle.buffers.specs.Session.{Session, Done, openOn, callOn}
+use Rattle.buffers.specs.Session.{Session, Done, lent, openOn, callOn}
 use Rattle.executor.specs.Perform.{opens, performOf}
 use Rattle.transcript.specs.Types.{Command, Open, Put, Get, Step, Look, Inspect, Line, NotOpen}
 use Rattle.transcript.specs.Types.{Opening, Starting, Stepping, Looking, Inspecting}
@@ -58,7 +59,7 @@ unfolding callOn openOn
 call-again w (Open k v p limit) = simp open-meant
 call-again w (Put i k v t draw) = simp start-meant
 call-again w (Get i k) = simp start-meant
-call-again w (Step i) = step-again i _
+call-again w (Step i) = step-again i (stepOf (lent w) i .outcome)
 call-again w (Look k back) = simp look-meant
 call-again w Inspect = simp inspect-meant
 

@@ -146,21 +146,21 @@ NoScan p = isScan (p .call .kind) ≡ false
 phase-leaves : (ph : Phase) (holder tick : ℕ) (p : Process) (m : Memory) → T (plays (p .call .kind) (roleOf ph))
     → let r = phaseOf ph holder tick p m in Long m (r .memory) × (NoScan p → Silent (r .move))
 unfolding phaseOf walkOf readOf seekOf checkOf updateOf releaseOf
-phase-leaves Walk holder tick p m q = (as-long m, λ no. walk-silent (p .call) (p .cursor) tick (aheadOf (p .call) (p .cursor) m))
+phase-leaves Walk holder tick p m q = (as-long m, λ none. walk-silent (p .call) (p .cursor) tick (aheadOf (p .call) (p .cursor) m))
 phase-leaves Read holder tick p m q =
-    (as-long m, λ no. if-by Silent (usedVersion m (newest (m .nodes) (p .cursor .pred))) (λ t. tt) (λ t. tt))
-phase-leaves Seek holder tick p m q = (as-long m, λ no. seek-silent (p .call) (p .cursor) (aheadOf (p .call) (p .cursor) m))
-phase-leaves Lock holder tick p m q = let o = lock-leaves (p .cursor) m holder in (o .0, λ no. o .1)
-phase-leaves Check holder tick p m q = let o = check-leaves (p .cursor) m (aheadOf (p .call) (p .cursor) m) in (o .0, λ no. o .1)
+    (as-long m, λ none. if-by Silent (usedVersion m (newest (m .nodes) (p .cursor .pred))) (λ t. tt) (λ t. tt))
+phase-leaves Seek holder tick p m q = (as-long m, λ none. seek-silent (p .call) (p .cursor) (aheadOf (p .call) (p .cursor) m))
+phase-leaves Lock holder tick p m q = let o = lock-leaves (p .cursor) m holder in (o .0, λ none. o .1)
+phase-leaves Check holder tick p m q = let o = check-leaves (p .cursor) m (aheadOf (p .call) (p .cursor) m) in (o .0, λ none. o .1)
 phase-leaves Update holder tick p m q =
-    let o = update-leaves (p .cursor) m (p .call) (next (m .nodes) 0 (p .cursor .pred)) in (o .0, λ no. o .1)
-phase-leaves Make holder tick p m q = let o = make-leaves (p .cursor) m (p .call) in (o .0, λ no. o .1)
-phase-leaves Link holder tick p m q = let o = link-leaves (p .cursor) m in (o .0, λ no. o .1)
+    let o = update-leaves (p .cursor) m (p .call) (next (m .nodes) 0 (p .cursor .pred)) in (o .0, λ none. o .1)
+phase-leaves Make holder tick p m q = let o = make-leaves (p .cursor) m (p .call) in (o .0, λ none. o .1)
+phase-leaves Link holder tick p m q = let o = link-leaves (p .cursor) m in (o .0, λ none. o .1)
 phase-leaves Release holder tick p m q =
     let o = release-leaves (p .cursor) m (released (p .call) (p .cursor) (p .effect) (p .preds) m)
     (released-silent (p .call) (p .cursor) (p .effect) (p .preds) m) in
-    (o .0, λ no. o .1)
-phase-leaves Follow holder tick p m q = (as-long m, λ no. absurd (subst (λ b. T b) no q))
+    (o .0, λ none. o .1)
+phase-leaves Follow holder tick p m q = (as-long m, λ none. absurd (subst (λ b. T b) none q))
 
 transition-leaves : (holder tick : ℕ) (p : Process) (m : Memory)
     → let r = transitionOf holder tick p m in Long m (r .memory) × (NoScan p → Silent (r .move))
@@ -172,7 +172,7 @@ transition-leaves holder tick p m =
     (λ t. phase-leaves (p .cursor .phase) holder tick p m
     (and→ (plays kind role) (lawfulEffect kind role (p .effect))
     (and→ (leb (p .cursor .level) topLevel && leb (p .cursor .pred) (m .counts .nodes)) _ t .1) .0))
-    (λ t. (as-long m, λ no. tt))
+    (λ t. (as-long m, λ none. tt))
 
 -- ---- a step
 
@@ -220,4 +220,4 @@ unshown-by Granted w i v s = outcome-unshown _ (processAt (w .state) i .call) (v
 
 pub step-unshown : (w : Store) (i : ℕ) → NoScan (processAt (w .state) i) → Unshown (stepOf w i .outcome)
 unfolding stepOf
-step-unshown w i no = unshown-by (stepPermit w i) w i _ (transition-leaves _ _ _ _ .1 no)
+step-unshown w i none = unshown-by (stepPermit w i) w i _ (transition-leaves _ _ _ _ .1 none)

@@ -10,6 +10,7 @@ pub use Rattle.model.specs.declared.types.Refusal.{Refusal}
 pub use Rattle.model.specs.declared.types.Refusal.the-variants.{Corrupt, NotOpen}
 pub use Rattle.model.specs.declared.types.Call.{Call}
 pub use Rattle.model.specs.declared.types.Cursor.{Cursor}
+pub use Rattle.model.specs.declared.types.Effect.{Effect}
 pub use Rattle.model.specs.declared.types.Process.{Process}
 pub use Rattle.model.specs.declared.types.Lengths.{Lengths}
 pub use Rattle.model.specs.declared.types.State.{State}
