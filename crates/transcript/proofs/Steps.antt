@@ -74,8 +74,7 @@ module _ (c : Cursor) (m : Memory) where
   make-leaves call =
       if-by Of (leb (maxNodes m) (m .counts .nodes)) (λ t. (as-long m, tt)) λ t.
       if-by Of (leb (maxVersions m) (m .counts .versions)) (λ t. (as-long m, tt)) λ t.
-      if-by Of (ltb topLevel (call .top)) (λ t. (as-long m, tt)) λ t.
-      (
+      if-by Of (ltb topLevel (call .top)) (λ t. (as-long m, tt)) λ t. (
         record {
           nodes = length-word _ (c .pred) 4 _ ∙ length-node (m .nodes) _ (call .key) _ (call .top) _;
           versions = length-version (m .versions) _ _ 0;

@@ -1,6 +1,7 @@
--- The store that the commands of a sheet play, as a system: a call is a command, and its outcome is what its line tells. No command
--- starts a scan: this start is the store's own on the session, and so is the outcome of a step, since a line has no words for what a
--- scan shows. No command asks for standing, tally and counts: these are read from the session.
+-- The store that the commands of a sheet play, as a system: a call is a command, and its outcome is what its line tells. But no command
+-- starts a scan, and no line has words for what a scan shows: such a start is the store's own call on the session, and a step answers what
+-- the store's step answers, which the lines of a sheet tell too (Sheets `such-list`). No command asks for standing, tally and
+-- counts: these are read from the session.
 use Prim.Native.Nat.{ℕ}
 use mathlib.Core.Path.{_≡_}
 use lib.ListN.{length}
@@ -41,10 +42,10 @@ fittingFor k v p limit = record {
 abbrev pub opensByLine : Done → Opens Session
 opensByLine d = opensBy (openMeant (d .line)) (d .session)
 
-abbrev pub begins : Session → (process : ℕ) → Operation → Done
-begins w i (put k v t draw) = performOf w (Put i k v t draw)
-begins w i (get k) = performOf w (Get i k)
-begins w i (scan first last) = startedOn w (startOn (w .state) (w .nodes) (w .versions) i (scan first last))
+abbrev pub startedBy : Session → (process : ℕ) → Operation → Done
+startedBy w i (put k v t draw) = performOf w (Put i k v t draw)
+startedBy w i (get k) = performOf w (Get i k)
+startedBy w i (scan first last) = startedOn w (startOn (w .state) (w .nodes) (w .versions) i (scan first last))
 
 -- what is read from a command's line, and the session that it leaves
 abbrev pub answered : {O : Type 0} → (meant : Line → O) → Done → After O Session
@@ -56,7 +57,7 @@ bySheet = record {
   Setup = Asked;
   fitting = λ s. fittingFor (s .keys) (s .versions) (s .processes) (s .limit);
   fresh = λ s. opensByLine (performOf (s .before) (Open (s .keys) (s .versions) (s .processes) (s .limit)));
-  start = λ w i op. answered startMeant (begins w i op);
+  start = λ w i op. answered startMeant (startedBy w i op);
   step = λ w i. record { outcome = stepOf (lent w) i .outcome; store = performOf w (Step i) .session };
   look = λ w k back. lookMeant (performOf w (Look k back) .line);
   status = λ w i. statusOf (w .state) i;
