@@ -1,8 +1,9 @@
 /*
  * A small grading line on the tray store. Trays come past the scale, the candler and two packing lanes, in this order. The
  * scale puts a tray's weight; the candler looks the weight up and puts it again with the class; lane A gets the newest
- * reading and packs class A, lane B the seconds. The controller gives every station one turn in each round, so that the
- * calls of up to four trays overlap. It prints a line for each finished call and each wait, and what the store holds at the end.
+ * reading and packs class A, lane B the seconds. Lane C makes up a farm's lot: once, while the others go on, it lists the
+ * trays of that farm. The controller gives every station one turn in each round, so that the calls of up to five stations
+ * overlap. It prints a line for each finished call, each wait and each tray listed, and what the store holds at the end.
  *
  * A value is 10,000 times the class plus the weight in grams. A stamp is the controller's clock, one count a round.
  */
@@ -12,12 +13,13 @@
 #include <stdio.h>
 #include <stdlib.h>
 
-enum { SCALE, CANDLER, LANE_A, LANE_B, STATIONS };
+enum { SCALE, CANDLER, LANE_A, LANE_B, LANE_C, STATIONS };
 enum { TRAYS = 8, READINGS = 16, EVENTS = 2000 };
 enum { NODE_WORDS = TRAY_NODE_WORDS(TRAYS), READING_WORDS = TRAY_READING_WORDS(READINGS) };
 enum { NOT_CANDLED, CLASS_A, SECONDS, CLASS_UNIT = 10000 };
 
-static const char *const station_names[STATIONS] = {"scale", "candler", "lane A", "lane B"};
+static const char *const station_names[STATIONS] = {"scale", "candler", "lane A", "lane B", "lane C"};
+static const char *const kind_names[] = {"idle", "put", "get", "sweep"};
 static const char *const answer_names[TRAY_TALLY_WORDS] = {"too old", "readings full", "added", "trays full", "new", "found", "none"};
 static const char *const class_names[] = {"", " class A", " seconds"};
 
@@ -49,6 +51,14 @@ static struct {
 } belts[STATIONS];
 static uint32_t clock_now = 1000;
 
+/* The lot: all numbers of one farm, the clock at which lane C begins to list it, and how far it is. Lane C has no belt. */
+static const uint64_t lot_first = 204100000000, lot_last = 204199999999;
+static const uint32_t lot_due = 1049;
+static struct {
+    uint32_t trays_at_start, shown;
+    int done;
+} lot;
+
 /* ---- refusals: none is due on this line, so each ends the program */
 
 static void stop_if(uint32_t refusal, const char *call)
@@ -57,12 +67,14 @@ static void stop_if(uint32_t refusal, const char *call)
         "accepted", "node table length", "reading table length", "count of stations", "event limit out of range",
         "no such station", "tray number out of range", "busy", "no call running", "event limit spent",
         "no open state, or one that does not go with the tables", "memory was altered", "no such tray", "fewer readings than asked",
+        [TRAY_REFUSED_BAD_SPAN] = "first tray above the last",
     };
+    const char *told = refusal < sizeof meaning / sizeof meaning[0] ? meaning[refusal] : NULL;
     if (refusal == TRAY_OK) {
         return;
     }
     fflush(stdout);
-    fprintf(stderr, "%s refused %" PRIu32 ": %s\n", call, refusal, refusal <= TRAY_REFUSED_NO_READING ? meaning[refusal] : "unknown");
+    fprintf(stderr, "%s refused %" PRIu32 ": %s\n", call, refusal, told != NULL ? told : "unknown");
     exit(EXIT_FAILURE);
 }
 
@@ -75,7 +87,7 @@ static void send(unsigned station, const struct tray *tray)
 
 static int is_waiting(unsigned station)
 {
-    return belts[station].first < belts[station].end;
+    return station == LANE_C ? clock_now >= lot_due && !lot.done : belts[station].first < belts[station].end;
 }
 
 static const struct tray *tray_at(unsigned station)
@@ -117,8 +129,21 @@ static void start_get(unsigned station, uint64_t tray)
             "start of a get");
 }
 
+static void start_sweep(unsigned station, uint64_t first, uint64_t last)
+{
+    uint32_t tick;
+    stop_if(tray_start_sweep(state, TRAY_STATE_WORDS, nodes, NODE_WORDS, readings, READING_WORDS, station, first, last, &tick),
+            "start of a sweep");
+    lot.trays_at_start = state[TRAY_STATE_TRAYS];
+    printf("%6" PRIu32 "  %-7s lists %" PRIu64 " to %" PRIu64 "\n", tick, station_names[station], first, last);
+}
+
 static void start(unsigned station)
 {
+    if (station == LANE_C) {
+        start_sweep(station, lot_first, lot_last);
+        return;
+    }
     const struct tray *tray = tray_at(station);
     switch (station) {
     case SCALE:
@@ -150,7 +175,7 @@ static void tell_standing(unsigned station)
         printf("idle\n");
         return;
     }
-    printf("%s since %" PRIu32, kind == TRAY_KIND_PUT ? "put" : "get", standing(station, TRAY_STANDING_START));
+    printf("%s since %" PRIu32, kind_names[kind], standing(station, TRAY_STANDING_START));
     if (effect == 0) {
         printf(", no effect yet\n");
     } else {
@@ -227,6 +252,24 @@ static void finish(unsigned station, const uint32_t answer[TRAY_STEP_WORDS])
                : after_get(station, tray, answer[TRAY_STEP_ANSWER], answer[TRAY_STEP_VALUE]));
 }
 
+/* A tray that the sweep shows. Nodes are given out in the order of making, so p tells whether the tray is newer than the sweep. */
+static void show(unsigned station, const uint32_t answer[TRAY_STEP_WORDS])
+{
+    uint32_t node = state[TRAY_STATION_AT(station) + TRAY_STATION_NODE];
+    lot.shown++;
+    printf("%6" PRIu32 "  %-7s sees %" PRIu64 "               ", answer[TRAY_STEP_TICK], station_names[station],
+           TRAY_NUMBER(answer[TRAY_STEP_TRAY_LOW], answer[TRAY_STEP_TRAY_HIGH]));
+    tell_reading(answer[TRAY_STEP_VALUE], answer[TRAY_STEP_STAMP]);
+    printf("%s\n", node > lot.trays_at_start ? "  new since the start of the list" : "");
+}
+
+static void finish_sweep(unsigned station, const uint32_t answer[TRAY_STEP_WORDS])
+{
+    lot.done = 1;
+    printf("%6" PRIu32 "  %-7s has listed %" PRIu32 " trays, start %3" PRIu32 "\n", answer[TRAY_STEP_TICK], station_names[station],
+           lot.shown, answer[TRAY_STEP_START]);
+}
+
 static void step(unsigned station)
 {
     uint32_t answer[TRAY_STEP_WORDS];
@@ -234,12 +277,16 @@ static void step(unsigned station)
             "step");
     if (answer[TRAY_STEP_OUTCOME] == TRAY_OUTCOME_WAIT) {
         tell_wait(station, answer[TRAY_STEP_TICK]);
+    } else if (answer[TRAY_STEP_OUTCOME] == TRAY_OUTCOME_SHOWN) {
+        show(station, answer);
+    } else if (answer[TRAY_STEP_OUTCOME] == TRAY_OUTCOME_DONE && answer[TRAY_STEP_KIND] == TRAY_KIND_SWEEP) {
+        finish_sweep(station, answer);
     } else if (answer[TRAY_STEP_OUTCOME] == TRAY_OUTCOME_DONE) {
         finish(station, answer);
     }
 }
 
-/* One turn: a step where a call runs, else a start where a tray is there. */
+/* One turn: a step where a call runs, else a start where there is something to do. */
 static void turn(unsigned station)
 {
     if (standing(station, TRAY_STANDING_KIND) != TRAY_KIND_IDLE) {
@@ -265,10 +312,10 @@ static void open_line(void)
     printf("open: %d stations, %d trays, %d readings, %d events at most\n\n  tick\n", STATIONS, TRAYS, READINGS, EVENTS);
 }
 
-/* Empty belts mean idle stations too. */
+/* Empty belts and a lot listed mean idle stations too. */
 static int is_empty(void)
 {
-    return !is_waiting(SCALE) && !is_waiting(CANDLER) && !is_waiting(LANE_A) && !is_waiting(LANE_B);
+    return !is_waiting(SCALE) && !is_waiting(CANDLER) && !is_waiting(LANE_A) && !is_waiting(LANE_B) && lot.done;
 }
 
 static void tell_held(void)

@@ -4,7 +4,7 @@ use std::env;
 use std::path::Path;
 use std::process::Command;
 
-const CALLS: [&str; 7] = ["open", "start_put", "start_get", "step", "look", "inspect", "standing"];
+const CALLS: [&str; 8] = ["open", "start_put", "start_get", "start_sweep", "step", "look", "inspect", "standing"];
 const SIZES: [&str; 5] = ["version", "state_words", "tally_words", "node_words", "reading_words"];
 
 fn main() {

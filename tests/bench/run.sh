@@ -1,6 +1,6 @@
 #!/usr/bin/env bash
 # tests/bench/run.sh            times every workload in interleaved rounds and prints a table of ratios to C
-# tests/bench/run.sh --count    counts instructions (valgrind) a call of the interface, and how the cost grows
+# tests/bench/run.sh --count    counts instructions (valgrind) a call of the interface, and how the cost grows with spans and stores
 # TRAY_ARCHIVE names the folder of libembed.a, target/staticlib if unset; CC the compiler of the C.
 set -euo pipefail
 cd "$(dirname "$0")"
@@ -9,15 +9,20 @@ bench=$PWD/target/release/tray-bench
 names=(archive C Rust)
 declare -A prefix=([archive]=tray [C]=c_tray [Rust]=rust_tray)
 calls=2000
+span=32
 
-# run CALL NAME WORKLOAD KEYS VERSIONS: sets `instructions` spent in CALL, and `made` and `steps` of the workload.
+# run CALLS NAME WORKLOAD KEYS VERSIONS: sets `instructions` spent in CALLS, and `made`, `steps` and `shown` of the workload.
 # The fill before it is not counted.
 run() {
-    local out=target/callgrind.out function=${prefix[$2]}_$1 printed
-    if [[ $2 == Rust && $1 == start_* ]]; then function=rust_tray_start; fi
-    printed=$(valgrind --tool=callgrind --callgrind-out-file="$out" --toggle-collect="$function" \
-        --zero-before=tray_bench_counted "$bench" count "$2" "$3" "$4" "$5" "$calls" 2>target/callgrind.log)
-    read -r made steps <<<"$printed"
+    local out=target/callgrind.out call function printed counted=()
+    for call in $1; do
+        function=${prefix[$2]}_$call
+        if [[ $2 == Rust && $call == start_* ]]; then function=rust_tray_start; fi
+        counted+=(--toggle-collect="$function")
+    done
+    printed=$(valgrind --tool=callgrind --callgrind-out-file="$out" "${counted[@]}" \
+        --zero-before=tray_bench_counted "$bench" count "$2" "$3" "$4" "$5" "$calls" "$span" 2>target/callgrind.log)
+    read -r made steps shown <<<"$printed"
     instructions=$(sed -n 's/^totals: //p' "$out")
 }
 
@@ -41,9 +46,37 @@ count_calls() {
     row "step of a get, eight stations" step get-eight steps 1023 4095
     row "step of a put, eight stations" step put-eight steps 1023 4095
     row "step of a fill" step fill steps 1023 4095
+    row "step of a sweep, $span trays" step sweep steps 1023 4095
+    row "step of a sweep, $span trays, eight stations" step sweep-eight steps 1023 4095
+    calls=20 span=1023 row "step of a sweep, all trays" step sweep steps 1023 4095
     row "start of a get" start_get get made 1023 4095
     row "start of a put" start_put put made 1023 4095
+    row "start of a sweep" start_sweep sweep made 1023 4095
     calls=20 row inspection inspect inspect made 1023 4095
+}
+
+# sweeps SPAN: a tray by sweeps of so many trays, then by gets of the same trays: steps and instructions, archive then C.
+sweeps() {
+    local span=$1 line="| $1 |" name
+    for name in archive C; do
+        calls=$((2000 / $1 + 20)) run "start_sweep step" "$name" sweep 1023 4095
+        if [[ $name == archive ]]; then line+=" $(ratio "$steps" "$made") | $(ratio "$steps" "$shown") |"; fi
+        line+=" $(ratio "$instructions" "$shown") |"
+    done
+    for name in archive C; do
+        run "start_get step" "$name" span-get 1023 4095
+        if [[ $name == archive ]]; then line+=" $(ratio "$steps" "$made") |"; fi
+        line+=" $(ratio "$instructions" "$made") |"
+    done
+    echo "$line"
+}
+
+count_sweeps() {
+    printf '\nSweeps and gets of the same trays, the starts included, 1,023 trays and 4,095 readings:\n\n'
+    printf '| trays of a span | steps a sweep | steps a tray | archive a tray | C |'
+    printf ' steps a get | archive a get | C |\n|--:|--:|--:|--:|--:|--:|--:|--:|\n'
+    local trays
+    for trays in 1 4 16 64 256 1023; do sweeps "$trays"; done
 }
 
 # growth KEYS VERSIONS: steps a call and instructions a step, archive then C; instructions an inspection.
@@ -74,6 +107,7 @@ count_growth() {
 case ${1-} in
 --count)
     count_calls
+    count_sweeps
     count_growth
     ;;
 "")

@@ -389,6 +389,11 @@ newest-shown : asked three (scanned ++ (step 1 ∷ []) ++ put 12 10 9 100) (call
 unfolding asked
 newest-shown = refl
 
+-- "all trays from a first number to a last": the last is of the span
+last-shown : asked three (put 11 10 5 100 ++ (startScan 1 7 10 ∷ steps 6 1)) (call (step 1)) ≡ shown 20 10 5 100
+unfolding asked
+last-shown = refl
+
 -- "The step that meets [..] a tray past the last [..] finishes, with answer 'swept', value 0 and stamp 0. The sweep's effect tick is 0"
 swept-past-last : asked three (scanned ++ steps 2 1) (call (step 1)) ≡ done Scan Swept 0 0 26 0 47
 unfolding asked

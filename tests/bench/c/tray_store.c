@@ -1,24 +1,26 @@
 /* include/tray_store.h written by hand: the yardstick of the benchmarks. The lent words are overlaid by structs and changed
- * in place. Names follow docs/GLOSSARY.md: key = tray, version = reading, process = station. */
+ * in place. Names follow docs/GLOSSARY.md: key = tray, version = reading, process = station, scan = sweep. */
 #include "tray_store.h"
 
 #include <string.h>
 
 enum { LEVELS = 6, TOP = LEVELS - 1, PROCESSES = 8, NODE_WORDS = 16, VERSION_WORDS = 3 };
-enum { MAX_KEYS = 1023, MAX_VERSIONS = 4095, MAX_LIMIT = 1000000000, LAYOUT = 2 };
+enum { MAX_KEYS = 1023, MAX_VERSIONS = 4095, MAX_LIMIT = 1000000000, LAYOUT = 3 };
 
-typedef enum { IDLE, PUT, GET, KINDS } Kind;
-typedef enum { WALK, READ, SEEK, LOCK, CHECK, UPDATE, MAKE, LINK, RELEASE, PHASES } Phase;
-typedef enum { TOO_OLD, VERSIONS_FULL, ADDED, KEYS_FULL, NEW, FOUND, NONE, ANSWERS } Answer;
-typedef enum { ON, WAIT, DONE } Outcome;
+typedef enum { IDLE, PUT, GET, SCAN, KINDS } Kind;
+typedef enum { WALK, READ, SEEK, LOCK, CHECK, UPDATE, MAKE, LINK, RELEASE, FOLLOW, PHASES } Phase;
+typedef enum { TOO_OLD, VERSIONS_FULL, ADDED, KEYS_FULL, NEW, FOUND, NONE, SWEPT, ANSWERS } Answer;
+typedef enum { ON, WAIT, DONE, SHOWN } Outcome;
+
+enum { COUNTS = SWEPT }; /* the answers that the tally counts come first */
 
 typedef enum {
     ACCEPTED, NODE_LENGTH, VERSION_LENGTH, PROCESS_COUNT, EVENT_LIMIT, NO_PROCESS, BAD_KEY, BUSY, NO_CALL, SPENT,
-    CORRUPT, DAMAGED, NO_KEY, NO_VERSION
+    CORRUPT, DAMAGED, NO_KEY, NO_VERSION, BAD_SPAN = 17
 } Refusal;
 
 typedef struct {
-    uint32_t kind, key_low, key_high, value, timestamp, top, start;
+    uint32_t kind, key_low, key_high, last_low, last_high, value, timestamp, top, start;
     uint32_t phase, level, pred, made;
     uint32_t answer, effect;
     uint32_t preds[LEVELS];
@@ -35,7 +37,7 @@ typedef struct { uint32_t value, timestamp, prev; } Version;
 
 enum { STATE_WORDS = sizeof(State) / sizeof(uint32_t) };
 
-_Static_assert(STATE_WORDS == 161, "the state's layout");
+_Static_assert(STATE_WORDS == TRAY_STATE_WORDS, "the state's layout");
 _Static_assert(sizeof(Node) == NODE_WORDS * sizeof(uint32_t), "a node's layout");
 _Static_assert(sizeof(Version) == VERSION_WORDS * sizeof(uint32_t), "a version's layout");
 
@@ -45,13 +47,15 @@ static inline uint64_t key_at(const Node *x) { return TRAY_NUMBER(x->key_low, x-
 
 static inline uint64_t key_sought(const Process *c) { return TRAY_NUMBER(c->key_low, c->key_high); }
 
+static inline uint64_t last_sought(const Process *c) { return TRAY_NUMBER(c->last_low, c->last_high); }
+
 /* ---- sizes */
 
 uint32_t tray_version(void) { return LAYOUT; }
 
 size_t tray_state_words(void) { return STATE_WORDS; }
 
-size_t tray_tally_words(void) { return ANSWERS; }
+size_t tray_tally_words(void) { return COUNTS; }
 
 size_t tray_node_words(uint32_t trays)
 {
@@ -121,14 +125,20 @@ static inline int like_tables(const State *s, size_t node_words, size_t version_
 
 /* ---- open and start */
 
-static const Process idle_process = { .answer = NONE };
+/* The last word on its own: more than 80 bytes the compiler clears by a string instruction, which takes longer. */
+static inline void make_idle(Process *c)
+{
+    memset(c, 0, offsetof(Process, preds[TOP]));
+    c->preds[TOP] = 0;
+    c->answer = NONE;
+}
 
 static void reset(State *s)
 {
     memset(s, 0, sizeof *s);
     s->layout = LAYOUT;
     for (int i = 0; i < PROCESSES; i++) {
-        s->process[i] = idle_process;
+        make_idle(&s->process[i]);
     }
 }
 
@@ -164,15 +174,31 @@ uint32_t tray_open(uint32_t *state, size_t state_words, uint32_t *nodes, size_t 
     return ACCEPTED;
 }
 
-static Refusal start_refusal(const State *s, size_t state_words, size_t node_words, size_t version_words,
-                             uint32_t process, uint64_t key)
+/* From key to last; a put and a get have one key, so the tests of a span fall away for them. */
+static inline Refusal start_refusal(const State *s, size_t state_words, size_t node_words, size_t version_words,
+                                    uint32_t process, uint64_t key, uint64_t last)
 {
     return !lawful_at(s, state_words, process) || !like_tables(s, node_words, version_words) ? CORRUPT
          : process >= s->processes                                                           ? NO_PROCESS
-         : !lawful_key(key)                                                                  ? BAD_KEY
+         : !lawful_key(key) || !lawful_key(last)                                             ? BAD_KEY
+         : key > last                                                                        ? BAD_SPAN
          : s->process[process].kind != IDLE                                                  ? BUSY
          : s->events >= s->limit                                                             ? SPENT
                                                                                              : ACCEPTED;
+}
+
+static inline Process *give_call(State *s, uint32_t process, Kind kind, uint64_t key, uint64_t last)
+{
+    Process *c = &s->process[process];
+    make_idle(c);
+    c->kind = kind;
+    c->key_low = (uint32_t)key;
+    c->key_high = (uint32_t)(key >> 32);
+    c->last_low = (uint32_t)last;
+    c->last_high = (uint32_t)(last >> 32);
+    c->start = ++s->events;
+    c->level = TOP;
+    return c;
 }
 
 static uint32_t top_of(uint16_t draw)
@@ -187,13 +213,14 @@ uint32_t tray_start_put(uint32_t *state, size_t state_words, const uint32_t *nod
     State *s = (State *)state;
     (void)nodes;
     (void)readings;
-    Refusal refusal = start_refusal(s, state_words, node_words, reading_words, station, tray);
+    Refusal refusal = start_refusal(s, state_words, node_words, reading_words, station, tray, tray);
     *tick = 0;
     if (refusal == ACCEPTED) {
-        *tick = ++s->events;
-        s->process[station] = (Process){ .kind = PUT, .key_low = (uint32_t)tray, .key_high = (uint32_t)(tray >> 32),
-                                         .value = value, .timestamp = stamp, .top = top_of(draw), .start = *tick,
-                                         .level = TOP, .answer = NONE };
+        Process *c = give_call(s, station, PUT, tray, tray);
+        c->value = value;
+        c->timestamp = stamp;
+        c->top = top_of(draw);
+        *tick = c->start;
     }
     return refusal;
 }
@@ -205,12 +232,25 @@ uint32_t tray_start_get(uint32_t *state, size_t state_words, const uint32_t *nod
     State *s = (State *)state;
     (void)nodes;
     (void)readings;
-    Refusal refusal = start_refusal(s, state_words, node_words, reading_words, station, tray);
+    Refusal refusal = start_refusal(s, state_words, node_words, reading_words, station, tray, tray);
     *tick = 0;
     if (refusal == ACCEPTED) {
-        *tick = ++s->events;
-        s->process[station] = (Process){ .kind = GET, .key_low = (uint32_t)tray, .key_high = (uint32_t)(tray >> 32),
-                                         .start = *tick, .level = TOP, .answer = NONE };
+        *tick = give_call(s, station, GET, tray, tray)->start;
+    }
+    return refusal;
+}
+
+uint32_t tray_start_sweep(uint32_t *state, size_t state_words, const uint32_t *nodes, size_t node_words,
+                          const uint32_t *readings, size_t reading_words, uint32_t station, uint64_t first,
+                          uint64_t last, uint32_t *tick)
+{
+    State *s = (State *)state;
+    (void)nodes;
+    (void)readings;
+    Refusal refusal = start_refusal(s, state_words, node_words, reading_words, station, first, last);
+    *tick = 0;
+    if (refusal == ACCEPTED) {
+        *tick = give_call(s, station, SCAN, first, last)->start;
     }
     return refusal;
 }
@@ -223,10 +263,12 @@ uint32_t tray_start_get(uint32_t *state, size_t state_words, const uint32_t *nod
     static uint32_t name(Process *c UNUSED, State *s UNUSED, Node *nodes UNUSED, Version *versions UNUSED, \
                          uint32_t *tally UNUSED, uint32_t *answer UNUSED)
 
-/* Refusal 11 at any step, but for level and pred: of a put, of a get, and of either in walk. */
+/* Refusal 11 at any step, but for level and pred: of a put, of a get, of a scan, and of any in walk. */
 static inline int lawful_put(const Process *c) { return c->kind == PUT && (c->effect == 0 || c->answer <= NEW); }
 
 static inline int lawful_get(const Process *c) { return c->kind == GET && c->effect == 0; }
+
+static inline int lawful_scan(const Process *c) { return c->kind == SCAN && c->effect == 0; }
 
 static inline int lawful_walk(const Process *c) { return c->effect == 0 || lawful_put(c); }
 
@@ -237,7 +279,7 @@ static inline uint32_t on(State *s, uint32_t *answer)
     return ACCEPTED;
 }
 
-static inline uint32_t finish(State *s, Process *c, uint32_t *tally, uint32_t *answer, uint32_t value, uint32_t timestamp)
+static inline uint32_t end(State *s, Process *c, uint32_t *answer, uint32_t value, uint32_t timestamp)
 {
     answer[0] = DONE;
     answer[1] = ++s->events;
@@ -247,9 +289,15 @@ static inline uint32_t finish(State *s, Process *c, uint32_t *tally, uint32_t *a
     answer[5] = timestamp;
     answer[6] = c->start;
     answer[7] = c->effect;
-    tally[c->answer] += tally[c->answer] != UINT32_MAX;
-    *c = idle_process;
+    make_idle(c);
     return ACCEPTED;
+}
+
+/* The end of a put or a get, which the tally counts. */
+static inline uint32_t finish(State *s, Process *c, uint32_t *tally, uint32_t *answer, uint32_t value, uint32_t timestamp)
+{
+    tally[c->answer] += tally[c->answer] != UINT32_MAX;
+    return end(s, c, answer, value, timestamp);
 }
 
 /* `next` is in use or the end: the caller has seen to that. */
@@ -278,6 +326,8 @@ TURN(walk)
         c->level--;
     } else if (c->kind == PUT) {
         c->phase = SEEK;
+    } else if (c->kind == SCAN) {
+        c->phase = FOLLOW;
     } else if (leads_to_key(c, nodes, next)) {
         c->pred = next;
         c->phase = READ;
@@ -439,11 +489,37 @@ TURN(release)
     return on(s, answer);
 }
 
+/* Along level 0, whatever the call's level. A key below the first was made since the walk; its version is not read. */
+TURN(follow_level)
+{
+    uint32_t next = nodes[c->pred].next[0];
+    if (!lawful_scan(c) || next > s->nodes) {
+        return DAMAGED;
+    }
+    const Node *node = &nodes[next];
+    if (next == 0 || key_at(node) > last_sought(c)) {
+        c->answer = SWEPT;
+        return end(s, c, answer, 0, 0);
+    }
+    if (key_at(node) >= key_sought(c)) {
+        if (node->newest == 0 || node->newest > s->versions) {
+            return DAMAGED;
+        }
+        answer[0] = SHOWN;
+        answer[2] = node->key_low;
+        answer[3] = node->key_high;
+        answer[4] = versions[node->newest].value;
+        answer[5] = versions[node->newest].timestamp;
+    }
+    c->pred = next;
+    return on(s, answer);
+}
+
 typedef uint32_t Turn(Process *, State *, Node *, Version *, uint32_t *, uint32_t *);
 
 static Turn *const turns[PHASES] = {
     [WALK] = walk,   [READ] = read_newest, [SEEK] = seek, [LOCK] = take_lock,  [CHECK] = check,
-    [UPDATE] = update, [MAKE] = make, [LINK] = link_level, [RELEASE] = release,
+    [UPDATE] = update, [MAKE] = make, [LINK] = link_level, [RELEASE] = release, [FOLLOW] = follow_level,
 };
 
 /* Why a process has no call to turn. */
@@ -462,7 +538,7 @@ uint32_t tray_step(uint32_t *state, size_t state_words, uint32_t *nodes, size_t 
 {
     State *s = (State *)state;
     memset(answer, 0, 8 * sizeof *answer);
-    if (state_words != STATE_WORDS || tally_words != ANSWERS || !lawful_head(s)
+    if (state_words != STATE_WORDS || tally_words != COUNTS || !lawful_head(s)
         || !like_tables(s, node_words, reading_words)) {
         return CORRUPT;
     }

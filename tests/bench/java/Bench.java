@@ -2,13 +2,14 @@ import java.io.BufferedInputStream;
 import java.io.DataInputStream;
 import java.io.IOException;
 import java.util.Arrays;
+import java.util.Map;
 import java.util.concurrent.ConcurrentSkipListMap;
 import java.util.function.LongSupplier;
 
 /** ConcurrentSkipListMap with a list of versions, on the plan of standard input. Prints nanoseconds a call and the sum of answers. */
 final class Bench {
-    private static final int TOO_OLD = 0, VERSIONS_FULL = 1, ADDED = 2, KEYS_FULL = 3, NEW = 4, FOUND = 5, NONE = 6;
-    private static final int PUT = 1, WARM_UP = 200, ROUNDS = 301;
+    private static final int TOO_OLD = 0, VERSIONS_FULL = 1, ADDED = 2, KEYS_FULL = 3, NEW = 4, FOUND = 5, NONE = 6, SWEPT = 7;
+    private static final int PUT = 1, SCAN = 3, WARM_UP = 200, ROUNDS = 301;
 
     private record Version(int value, int timestamp, Version prev) {}
 
@@ -28,10 +29,12 @@ final class Bench {
     public static void main(String[] arguments) throws IOException {
         DataInputStream plan = new DataInputStream(new BufferedInputStream(System.in));
         Bench bench = new Bench(plan.readInt(), plan.readInt());
-        Call[] fill = calls(plan), gets = calls(plan), puts = calls(plan);
+        Call[] fill = calls(plan), gets = calls(plan), puts = calls(plan), scans = calls(plan), spanGets = calls(plan);
         report(fill.length, () -> bench.refill(fill));
         report(gets.length, () -> bench.play(gets));
         report(puts.length, () -> bench.play(puts));
+        report(scans.length, () -> bench.play(scans));
+        report(spanGets.length, () -> bench.play(spanGets));
     }
 
     private static Call[] calls(DataInputStream plan) throws IOException {
@@ -67,12 +70,25 @@ final class Bench {
             Call call = calls[index];
             if (call.kind == PUT) {
                 answered(index, put(call.key, call.value, call.timestamp), call.value, call.timestamp);
+            } else if (call.kind == SCAN) {
+                scan(index, call);
             } else {
                 Version newest = map.get(call.key);
                 answered(index, newest == null ? NONE : FOUND, newest == null ? 0 : newest.value, newest == null ? 0 : newest.timestamp);
             }
         }
         return answers;
+    }
+
+    /** The last key stands in the words of value and timestamp. */
+    private void scan(int index, Call call) {
+        long last = (long) call.value << 32 | Integer.toUnsignedLong(call.timestamp);
+        for (Map.Entry<Long, Version> shown : map.subMap(call.key, true, last, true).entrySet()) {
+            Version newest = shown.getValue();
+            long words = ((long) newest.value << 32 | Integer.toUnsignedLong(newest.timestamp)) ^ shown.getKey() * 0x9E3779B97F4A7C15L;
+            answers += words * (2L * index + 1);
+        }
+        answered(index, SWEPT, 0, 0);
     }
 
     private int put(long key, int value, int timestamp) {

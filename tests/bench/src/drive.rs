@@ -16,6 +16,7 @@ pub struct Done {
 pub enum Turn {
     On(u32),
     Wait(u32),
+    Shown { tick: u32, key: u64, value: u32, timestamp: u32 },
     Done(Done),
 }
 
@@ -38,6 +39,7 @@ pub struct Run {
     pub calls: u64,
     pub steps: u64,
     pub waits: u64,
+    pub shown: u64,
     pub answers: u64,
     pub ticks: u64,
 }
@@ -49,6 +51,13 @@ impl Run {
         self.calls += 1;
     }
 
+    /// A key that the scan at `index` shows.
+    pub fn shows(&mut self, index: usize, key: u64, value: u32, timestamp: u32) {
+        let words = ((value as u64) << 32 | timestamp as u64) ^ key.wrapping_mul(0x9E37_79B9_7F4A_7C15);
+        self.answers = self.answers.wrapping_add(words.wrapping_mul(2 * index as u64 + 1));
+        self.shown += 1;
+    }
+
     /// Takes in one step of the call at `index`; true when the call is done.
     fn turned(&mut self, index: usize, turn: Turn) -> bool {
         self.steps += 1;
@@ -57,6 +66,10 @@ impl Run {
             Turn::Wait(tick) => {
                 self.ticks += tick as u64;
                 self.waits += 1;
+            }
+            Turn::Shown { tick, key, value, timestamp } => {
+                self.ticks += tick as u64;
+                self.shows(index, key, value, timestamp);
             }
             Turn::Done(done) => {
                 self.answered(index, done.answer, done.value, done.timestamp);
@@ -116,17 +129,23 @@ pub enum Workload {
     Put,
     GetEight,
     PutEight,
+    Sweep,
+    SweepEight,
+    SpanGet,
     Inspect,
 }
 
 impl Workload {
     /// A fill comes first: the others run on the store that it leaves, and leave it so.
-    pub const ALL: [(Workload, &str); 6] = [
+    pub const ALL: [(Workload, &str); 9] = [
         (Workload::Fill, "fill"),
         (Workload::Get, "get"),
         (Workload::Put, "put"),
         (Workload::GetEight, "get-eight"),
         (Workload::PutEight, "put-eight"),
+        (Workload::Sweep, "sweep"),
+        (Workload::SweepEight, "sweep-eight"),
+        (Workload::SpanGet, "span-get"),
         (Workload::Inspect, "inspect"),
     ];
 }
@@ -151,6 +170,9 @@ impl<S: Store> Contestant for S {
             Workload::Put => alone(self, &plan.puts),
             Workload::GetEight => eight(self, &plan.gets),
             Workload::PutEight => eight(self, &plan.puts),
+            Workload::Sweep => alone(self, &plan.scans),
+            Workload::SweepEight => eight(self, &plan.scans),
+            Workload::SpanGet => alone(self, &plan.span_gets),
             Workload::Inspect => inspect(self, plan.inspections),
         })
     }

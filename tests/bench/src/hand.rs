@@ -13,7 +13,8 @@ const PROCESSES: usize = 8;
 const NODE_WORDS: usize = 16;
 const VERSION_WORDS: usize = 3;
 const MAX_LIMIT: u32 = 1_000_000_000;
-const ANSWERS: usize = 7;
+/// Words of the tally: the answers that it counts come first.
+const COUNTS: usize = 7;
 
 // Words of a node and of a version.
 const KEY_LOW: usize = 0;
@@ -46,6 +47,7 @@ pub enum Refusal {
     Spent = 9,
     Corrupt = 10,
     Damaged = 11,
+    BadSpan = 17,
 }
 
 #[derive(Clone, Copy, PartialEq, Eq)]
@@ -53,6 +55,7 @@ enum Kind {
     Idle,
     Put,
     Get,
+    Scan,
 }
 
 #[derive(Clone, Copy, PartialEq, Eq)]
@@ -66,6 +69,7 @@ enum Phase {
     Make,
     Link,
     Release,
+    Follow,
 }
 
 #[derive(Clone, Copy, PartialEq, Eq, PartialOrd)]
@@ -77,12 +81,15 @@ enum Answer {
     New,
     Found,
     None,
+    Swept,
 }
 
 #[derive(Clone, Copy)]
 struct Process {
     kind: Kind,
     key: u64,
+    /// A scan's last key; of other calls their key once more.
+    last: u64,
     value: u32,
     timestamp: u32,
     top: u32,
@@ -100,6 +107,7 @@ impl Process {
     const IDLE: Process = Process {
         kind: Kind::Idle,
         key: 0,
+        last: 0,
         value: 0,
         timestamp: 0,
         top: 0,
@@ -150,6 +158,10 @@ fn lawful_limit(limit: u32) -> bool {
     (1..=MAX_LIMIT).contains(&limit)
 }
 
+fn lawful_key(key: u64) -> bool {
+    key != 0 && key != u64::MAX
+}
+
 impl State {
     const CLOSED: State = State {
         opened: false,
@@ -196,14 +208,17 @@ impl State {
     fn start(&mut self, nodes: &[u32], versions: &[u32], process: u32, call: &Call) -> Result<u32, Refusal> {
         refuse_unless(self.lawful(nodes, versions), Refusal::Corrupt)?;
         refuse_unless(process < self.processes, Refusal::NoProcess)?;
-        refuse_unless(call.key != 0 && call.key != u64::MAX, Refusal::BadKey)?;
+        let last = if let plan::Kind::Scan { last } = call.kind { last } else { call.key };
+        refuse_unless(lawful_key(call.key) && lawful_key(last), Refusal::BadKey)?;
+        refuse_unless(call.key <= last, Refusal::BadSpan)?;
         let slot = &mut self.process[process as usize];
         refuse_unless(slot.kind == Kind::Idle, Refusal::Busy)?;
         refuse_unless(self.events < self.limit, Refusal::Spent)?;
         self.events += 1;
-        let fresh = Process { kind: Kind::Get, key: call.key, start: self.events, level: TOP_LEVEL, ..Process::IDLE };
+        let fresh = Process { kind: Kind::Get, key: call.key, last, start: self.events, level: TOP_LEVEL, ..Process::IDLE };
         *slot = match call.kind {
             plan::Kind::Get => fresh,
+            plan::Kind::Scan { .. } => Process { kind: Kind::Scan, ..fresh },
             plan::Kind::Put { value, timestamp, draw } => {
                 let top = draw.trailing_zeros().min(TOP_LEVEL);
                 Process { kind: Kind::Put, value, timestamp, top, ..fresh }
@@ -218,14 +233,14 @@ pub struct HandRust {
     state: State,
     nodes: Vec<u32>,
     versions: Vec<u32>,
-    tally: [u32; ANSWERS],
+    tally: [u32; COUNTS],
 }
 
 impl drive::Store for HandRust {
     fn closed(keys: u32, versions: u32) -> HandRust {
         let nodes = vec![0; NODE_WORDS * (keys as usize + 1)];
         let versions = vec![0; VERSION_WORDS * (versions as usize + 1)];
-        HandRust { state: State::CLOSED, nodes, versions, tally: [0; ANSWERS] }
+        HandRust { state: State::CLOSED, nodes, versions, tally: [0; COUNTS] }
     }
 
     fn open(&mut self) {

@@ -11,7 +11,7 @@ pub struct Figure {
     pub answers: u64,
 }
 
-/// Figures of fill, get and put; none where `TRAY_JAVA`, the folder of its classes, is not set.
+/// Figures of fill, get, put, sweep and span-get; none where `TRAY_JAVA`, the folder of its classes, is not set.
 pub fn figures(plan: &Plan) -> Vec<Figure> {
     let Ok(classes) = std::env::var("TRAY_JAVA") else { return Vec::new() };
     let mut java = Command::new("java")
@@ -25,7 +25,7 @@ pub fn figures(plan: &Plan) -> Vec<Figure> {
     assert!(output.status.success(), "java failed");
     let text = String::from_utf8(output.stdout).unwrap();
     text.lines()
-        .zip([Workload::Fill, Workload::Get, Workload::Put])
+        .zip([Workload::Fill, Workload::Get, Workload::Put, Workload::Sweep, Workload::SpanGet])
         .map(|(line, workload)| figure(line, workload))
         .collect()
 }
@@ -35,11 +35,11 @@ fn figure(line: &str, workload: Workload) -> Figure {
     Figure { workload, nanos: nanos.parse().unwrap(), answers: answers.parse().unwrap() }
 }
 
-/// Big-endian words: keys, versions, then for each list its length and its calls (1 put or 2 get, the key's high and low
-/// half, value, timestamp).
+/// Big-endian words: keys, versions, then for each list its length and its calls (1 put, 2 get or 3 scan, the key's high and
+/// low half, value, timestamp; for a scan the last key's halves in their place).
 fn plan_bytes(plan: &Plan) -> Vec<u8> {
     let mut words = vec![plan.keys, plan.versions];
-    for calls in [&plan.fill, &plan.gets, &plan.puts] {
+    for calls in [&plan.fill, &plan.gets, &plan.puts, &plan.scans, &plan.span_gets] {
         words.push(calls.len() as u32);
         words.extend(calls.iter().flat_map(call_words));
     }
@@ -51,5 +51,6 @@ fn call_words(call: &Call) -> [u32; 5] {
     match call.kind {
         Kind::Put { value, timestamp, .. } => [1, high, low, value, timestamp],
         Kind::Get => [2, high, low, 0, 0],
+        Kind::Scan { last } => [3, high, low, (last >> 32) as u32, last as u32],
     }
 }

@@ -1,7 +1,8 @@
 //! tray-bench: the proved archive against the same algorithm by hand and against maps.
 //!
 //! Without arguments it times all workloads on the largest store and prints a table. `count NAME WORKLOAD KEYS VERSIONS
-//! CALLS` fills a store and runs one workload once, for a counter of instructions, and prints calls and steps.
+//! CALLS SPAN` fills a store and runs one workload once, for a counter of instructions, and prints calls, steps and keys
+//! shown by sweeps, which are of SPAN keys.
 
 mod drive;
 mod hand;
@@ -22,6 +23,7 @@ const KEYS: u32 = 1_023;
 const VERSIONS: u32 = 4_095;
 const CALLS: usize = 4_000;
 const INSPECTIONS: u64 = 50;
+const SPAN: usize = 32;
 
 /// Names of the table's columns; ratios are to the second.
 const COLUMNS: [&str; 5] = ["archive", "C", "Rust", "BTreeMap", "Java"];
@@ -42,7 +44,7 @@ fn field(plan: &Plan) -> Vec<Named> {
 }
 
 fn bench() {
-    let plan = Plan::new(KEYS, VERSIONS, CALLS, INSPECTIONS);
+    let plan = Plan::new(KEYS, VERSIONS, CALLS, INSPECTIONS, SPAN);
     let mut field = field(&plan);
     let java = java::figures(&plan);
     println!("| workload | steps a call | C, ns a step | C, ns a call | {} |", COLUMNS.join(" | "));
@@ -77,9 +79,9 @@ fn counted(contestant: &mut dyn Contestant, plan: &Plan, workload: Workload) -> 
 }
 
 fn count(arguments: &[String]) -> Option<Run> {
-    let [name, workload, keys, versions, calls] = arguments else { return None };
+    let [name, workload, keys, versions, calls, span] = arguments else { return None };
     let calls = calls.parse().ok()?;
-    let plan = Plan::new(keys.parse().ok()?, versions.parse().ok()?, calls, calls as u64);
+    let plan = Plan::new(keys.parse().ok()?, versions.parse().ok()?, calls, calls as u64, span.parse().ok()?);
     let workload = Workload::ALL.iter().find(|of| of.1 == workload)?.0;
     let mut named = field(&plan).into_iter().find(|named| named.name == name)?;
     named.contestant.run(&plan, Workload::Fill);
@@ -91,9 +93,9 @@ fn main() {
     match arguments.split_first() {
         None => bench(),
         Some((mode, rest)) if mode == "count" => {
-            let run = count(rest).expect("usage: tray-bench count NAME WORKLOAD KEYS VERSIONS CALLS");
-            println!("{} {}", run.calls, run.steps);
+            let run = count(rest).expect("usage: tray-bench count NAME WORKLOAD KEYS VERSIONS CALLS SPAN");
+            println!("{} {} {}", run.calls, run.steps, run.shown);
         }
-        Some(_) => panic!("usage: tray-bench [count NAME WORKLOAD KEYS VERSIONS CALLS]"),
+        Some(_) => panic!("usage: tray-bench [count NAME WORKLOAD KEYS VERSIONS CALLS SPAN]"),
     }
 }

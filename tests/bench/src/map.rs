@@ -11,6 +11,7 @@ const KEYS_FULL: u32 = 3;
 const NEW: u32 = 4;
 const FOUND: u32 = 5;
 const NONE: u32 = 6;
+const SWEPT: u32 = 7;
 
 pub struct Map {
     lists: BTreeMap<u64, Vec<(u32, u32)>>,
@@ -31,6 +32,8 @@ impl Contestant for Map {
             Workload::Fill => Some(self.play(&plan.fill)),
             Workload::Get => Some(self.play(&plan.gets)),
             Workload::Put => Some(self.play(&plan.puts)),
+            Workload::Sweep => Some(self.play(&plan.scans)),
+            Workload::SpanGet => Some(self.play(&plan.span_gets)),
             _ => None,
         }
     }
@@ -47,6 +50,13 @@ impl Map {
             let (answer, value, timestamp) = match call.kind {
                 Kind::Get => self.get(call.key),
                 Kind::Put { value, timestamp, .. } => (self.put(call.key, value, timestamp), value, timestamp),
+                Kind::Scan { last } => {
+                    for (&key, list) in self.lists.range(call.key..=last) {
+                        let &(value, timestamp) = list.last().expect("a key has a version");
+                        run.shows(index, key, value, timestamp);
+                    }
+                    (SWEPT, 0, 0)
+                }
             };
             run.answered(index, answer, value, timestamp);
         }

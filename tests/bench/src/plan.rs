@@ -34,10 +34,12 @@ impl Random {
 /// Halves that many keys have: the least and the greatest, and those where a signed order would go wrong.
 const SHARED: [u64; 4] = [0, 0x7FFF_FFFF, 0x8000_0000, 0xFFFF_FFFF];
 
+/// A scan is of the keys from the call's own to `last`.
 #[derive(Clone, Copy)]
 pub enum Kind {
     Put { value: u32, timestamp: u32, draw: u16 },
     Get,
+    Scan { last: u64 },
 }
 
 #[derive(Clone, Copy)]
@@ -55,24 +57,44 @@ pub struct Plan {
     pub gets: Vec<Call>,
     /// Puts on the full store, a quarter of them of new keys; a full store stays as it is.
     pub puts: Vec<Call>,
+    /// Scans of the full store, each of as many keys as a span has.
+    pub scans: Vec<Call>,
+    /// Gets of the keys of the scans' spans, one span after another.
+    pub span_gets: Vec<Call>,
     pub inspections: u64,
 }
 
 const FIRST_TIMESTAMP: u32 = 1_000;
 
 impl Plan {
-    pub fn new(keys: u32, versions: u32, calls: usize, inspections: u64) -> Plan {
+    /// The spans have `span` keys, or all of them where there are fewer.
+    pub fn new(keys: u32, versions: u32, calls: usize, inspections: u64, span: usize) -> Plan {
         let mut random = Random(0x7E7_0001);
         let mut made = Vec::new();
         let fill = (0..versions).map(|at| fill_call(&mut random, &mut made, at, keys, versions)).collect();
-        let mut plan = Plan { keys, versions, fill, gets: Vec::new(), puts: Vec::new(), inspections };
+        let (gets, puts, scans, span_gets) = Default::default();
+        let mut plan = Plan { keys, versions, fill, gets, puts, scans, span_gets, inspections };
         for _ in 0..calls {
             let key = if random.below(4) == 0 { random.key() } else { made[random.below(keys) as usize] };
             plan.gets.push(Call { key, kind: Kind::Get });
             let timestamp = FIRST_TIMESTAMP + random.below(2 * versions);
             plan.puts.push(put(&mut random, key, timestamp));
         }
+        plan.add_scans(&mut random, made, calls, span);
         plan
+    }
+
+    /// Behind the other calls, so that these are the same with spans of any length.
+    fn add_scans(&mut self, random: &mut Random, mut made: Vec<u64>, calls: usize, span: usize) {
+        made.sort_unstable();
+        let span = span.clamp(1, made.len());
+        for _ in 0..calls {
+            let from = random.below((made.len() - span) as u32 + 1) as usize;
+            let keys = &made[from..from + span];
+            self.scans.push(Call { key: keys[0], kind: Kind::Scan { last: keys[span - 1] } });
+            let gets = keys.iter().take(calls - self.span_gets.len());
+            self.span_gets.extend(gets.map(|&key| Call { key, kind: Kind::Get }));
+        }
     }
 }
 

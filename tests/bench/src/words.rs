@@ -3,16 +3,17 @@
 use crate::drive::{Done, Store, Turn, PROCESSES};
 use crate::plan::{Call, Kind};
 
-const STATE_WORDS: usize = 161;
+const STATE_WORDS: usize = 177;
 const TALLY_WORDS: usize = 7;
 const LIMIT: u32 = 1_000_000_000;
 const ON: u32 = 0;
 const WAIT: u32 = 1;
+const SHOWN: u32 = 3;
 
 // Left as it is by rustfmt: an argument a line would triple it.
 #[rustfmt::skip]
 macro_rules! store {
-    ($name:ident, $open:ident, $start_put:ident, $start_get:ident, $step:ident, $inspect:ident) => {
+    ($name:ident, $open:ident, $start_put:ident, $start_get:ident, $start_sweep:ident, $step:ident, $inspect:ident) => {
         extern "C" {
             fn $open(
                 state: *mut u32, state_words: usize, nodes: *mut u32, node_words: usize, readings: *mut u32,
@@ -25,6 +26,10 @@ macro_rules! store {
             fn $start_get(
                 state: *mut u32, state_words: usize, nodes: *const u32, node_words: usize, readings: *const u32,
                 reading_words: usize, station: u32, tray: u64, tick: *mut u32,
+            ) -> u32;
+            fn $start_sweep(
+                state: *mut u32, state_words: usize, nodes: *const u32, node_words: usize, readings: *const u32,
+                reading_words: usize, station: u32, first: u64, last: u64, tick: *mut u32,
             ) -> u32;
             fn $step(
                 state: *mut u32, state_words: usize, nodes: *mut u32, node_words: usize, readings: *mut u32,
@@ -70,6 +75,12 @@ macro_rules! store {
                             self.readings.as_ptr(), self.readings.len(), process, call.key, &mut tick,
                         )
                     },
+                    Kind::Scan { last } => unsafe {
+                        $start_sweep(
+                            self.state.as_mut_ptr(), STATE_WORDS, self.nodes.as_ptr(), self.nodes.len(),
+                            self.readings.as_ptr(), self.readings.len(), process, call.key, last, &mut tick,
+                        )
+                    },
                     Kind::Put { value, timestamp, draw } => unsafe {
                         $start_put(
                             self.state.as_mut_ptr(), STATE_WORDS, self.nodes.as_ptr(), self.nodes.len(),
@@ -91,11 +102,12 @@ macro_rules! store {
                     )
                 };
                 assert_eq!(refusal, 0);
-                let [what, finish, _, answer, value, timestamp, start, effect] = words;
+                let [what, tick, _, answer, value, timestamp, start, effect] = words;
                 match what {
-                    ON => Turn::On(finish),
-                    WAIT => Turn::Wait(finish),
-                    _ => Turn::Done(Done { answer, value, timestamp, start, effect, finish }),
+                    ON => Turn::On(tick),
+                    WAIT => Turn::Wait(tick),
+                    SHOWN => Turn::Shown { tick, key: (words[3] as u64) << 32 | words[2] as u64, value, timestamp },
+                    _ => Turn::Done(Done { answer, value, timestamp, start, effect, finish: tick }),
                 }
             }
 
@@ -114,5 +126,5 @@ macro_rules! store {
     };
 }
 
-store!(Archive, tray_open, tray_start_put, tray_start_get, tray_step, tray_inspect);
-store!(HandC, c_tray_open, c_tray_start_put, c_tray_start_get, c_tray_step, c_tray_inspect);
+store!(Archive, tray_open, tray_start_put, tray_start_get, tray_start_sweep, tray_step, tray_inspect);
+store!(HandC, c_tray_open, c_tray_start_put, c_tray_start_get, c_tray_start_sweep, c_tray_step, c_tray_inspect);

@@ -5,6 +5,7 @@ use super::*;
 enum Move {
     On,
     Wait,
+    Shown { key: u64, value: u32, timestamp: u32 },
     End { answer: Answer, value: u32, timestamp: u32, effect: u32 },
 }
 
@@ -30,7 +31,7 @@ pub fn step(
     tally: &mut [u32],
     process: u32,
 ) -> Result<Turn, Refusal> {
-    refuse_unless(state.lawful(nodes, versions) && tally.len() == ANSWERS, Refusal::Corrupt)?;
+    refuse_unless(state.lawful(nodes, versions) && tally.len() == COUNTS, Refusal::Corrupt)?;
     refuse_unless(process < state.processes, Refusal::NoProcess)?;
     let call = &mut state.process[process as usize];
     refuse_unless(call.kind != Kind::Idle, Refusal::NoCall)?;
@@ -44,11 +45,13 @@ pub fn step(
     Ok(match moved {
         Move::On => Turn::On(tick),
         Move::Wait => Turn::Wait(tick),
+        Move::Shown { key, value, timestamp } => Turn::Shown { tick, key, value, timestamp },
         Move::End { answer, value, timestamp, effect } => {
             let start = call.start;
             *call = Process::IDLE;
-            let count = &mut tally[answer as usize];
-            *count = count.saturating_add(1);
+            if let Some(count) = tally.get_mut(answer as usize) {
+                *count = count.saturating_add(1);
+            }
             Turn::Done(Done { answer: answer as u32, value, timestamp, start, effect, finish: tick })
         }
     })
@@ -60,11 +63,14 @@ fn lawful_call(call: &Process, nodes: u32) -> bool {
     if call.level > TOP_LEVEL || call.pred > nodes {
         return false;
     }
-    if call.kind == Kind::Get {
-        return matches!(call.phase, Phase::Walk | Phase::Read) && call.effect == 0;
+    match call.kind {
+        Kind::Get => matches!(call.phase, Phase::Walk | Phase::Read) && call.effect == 0,
+        Kind::Scan => matches!(call.phase, Phase::Walk | Phase::Follow) && call.effect == 0,
+        _ => {
+            let answered = call.effect != 0 || call.phase == Phase::Release;
+            !matches!(call.phase, Phase::Read | Phase::Follow) && (!answered || call.answer <= Answer::New)
+        }
     }
-    let answered = call.effect != 0 || call.phase == Phase::Release;
-    call.phase != Phase::Read && (!answered || call.answer <= Answer::New)
 }
 
 impl Memory<'_> {
@@ -80,6 +86,7 @@ impl Memory<'_> {
             Phase::Make => self.make(),
             Phase::Link => self.link(),
             Phase::Release => self.release(),
+            Phase::Follow => self.follow(),
         }
     }
 
@@ -124,6 +131,8 @@ impl Memory<'_> {
             self.call.level -= 1;
         } else if self.call.kind == Kind::Put {
             self.call.phase = Phase::Seek;
+        } else if self.call.kind == Kind::Scan {
+            self.call.phase = Phase::Follow;
         } else if self.leads_to_key(next) {
             self.call.pred = next;
             self.call.phase = Phase::Read;
@@ -260,5 +269,24 @@ impl Memory<'_> {
         self.call.pred = pred;
         self.call.phase = Phase::Seek;
         Ok(Move::On)
+    }
+
+    /// Along level 0, whatever the call's level. A key below the first was made since the walk; its version is not read.
+    #[inline]
+    fn follow(&mut self) -> Moved {
+        let next = *self.link_at(0);
+        refuse_unless(next <= *self.used_nodes, Refusal::Damaged)?;
+        let key = self.key(next);
+        if next == 0 || key > self.call.last {
+            return Ok(Move::End { answer: Answer::Swept, value: 0, timestamp: 0, effect: 0 });
+        }
+        if key < self.call.key {
+            self.call.pred = next;
+            return Ok(Move::On);
+        }
+        let newest = self.newest(next)?;
+        let [value, timestamp, _] = self.versions[newest as usize];
+        self.call.pred = next;
+        Ok(Move::Shown { key, value, timestamp })
     }
 }
