@@ -9,7 +9,8 @@ use lib.ListN.{length, set}
 use lib.Seq.{sets}
 use Rattle.model.specs.declared.types.Cursor.{Cursor}
 use Rattle.model.specs.declared.types.Answer.{Answer}
-use Rattle.model.specs.declared.types.Move.the-variants.{Wait, Go, Note, Commit}
+use Rattle.model.specs.declared.types.Item.{Item}
+use Rattle.model.specs.declared.types.Move.the-variants.{Wait, Go, Note, Commit, Show}
 use Rattle.model.specs.Calls.{processAfter}
 use Rattle.process.specs.ProcessWords.{sizes, processOffsets, callWords, cursorWords, effectWords, processWords, processFrom, knownProcess}
 use Rattle.process.proofs.RoundTrip.{process-back}
@@ -36,6 +37,10 @@ module _ (w : List ℕ) (long : length w ≡ sizes .process) (known : knownProce
   pub goes : (c : Cursor) → putCursor w c ≡ processWords (processAfter tick (processFrom w) (Go c))
   unfolding processAfter
   goes c = ap (λ w. putCursor w c) same
+
+  pub shows : (c : Cursor) (x : Item) → putCursor w c ≡ processWords (processAfter tick (processFrom w) (Show c x))
+  unfolding processAfter
+  shows c x = goes c
 
   pub commits : (c : Cursor) (a : Answer)
       → sets (putCursor w c) (processOffsets .answer) (effectWords (record { answer = a; tick = tick }))

@@ -10,6 +10,7 @@ ghost use Rattle.process.specs.ProcessWords.{sizes, knownProcess};
 ghost use Rattle.apply.specs.Leave.{processIn, leaveIn};
 use crate::changes::apply_commit;
 use crate::changes::apply_note;
+use crate::changes::apply_show;
 use calls::after::count_end;
 use calls::after::outcome_of;
 use layout::state::put_event;
@@ -98,6 +99,11 @@ pub fn leave(
             apply_commit(&mut words[at..to], tick, cursor, answer);
             put_event(words, tick, counts);
             Stepping::Moved(tick)
+        }
+        Move::Show(cursor, item) => {
+            apply_show(&mut words[at..to], cursor);
+            put_event(words, tick, counts);
+            Stepping::Shown(tick, item)
         }
         Move::End(answer, version, effect) => {
             finish(words, at, tick, counts, answer, version, effect, tally)

@@ -59,6 +59,12 @@ pub fn process_after(tick: u32, p: Process, mv: Move) -> Process
                 preds,
             }
         }
+        Move::Show(cursor, _) => Process {
+            call,
+            cursor,
+            effect,
+            preds,
+        },
         Move::End(_, _, _) => Process::idle(),
     }
 }
@@ -73,6 +79,7 @@ pub fn outcome_of(tick: u32, call: Call, mv: Move) -> Stepping
         Move::Go(_) => Stepping::Moved(tick),
         Move::Note(_) => Stepping::Moved(tick),
         Move::Commit(_, _) => Stepping::Moved(tick),
+        Move::Show(_, item) => Stepping::Shown(tick, item),
         Move::End(answer, version, effect) => Stepping::Finished(Finish {
             kind,
             answer,
@@ -96,6 +103,7 @@ pub fn count_end(tally: &mut [u32], mv: Move)
         Move::Go(_) => {}
         Move::Note(_) => {}
         Move::Commit(_, _) => {}
+        Move::Show(_, _) => {}
         Move::End(answer, _, _) => count(tally, answer),
     }
 }

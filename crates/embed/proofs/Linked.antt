@@ -5,7 +5,7 @@ use mathlib.Core.List.{List}
 use mathlib.Core.Path.{_≡_, refl, ap, subst, _∙_, fun-ext}
 use borrow.Author.Tests.{ne-eqb}
 use Rattle.model.specs.declared.types.Kind.{Kind}
-use Rattle.model.specs.declared.types.Kind.the-variants.{Idle, Put, Get}
+use Rattle.model.specs.declared.types.Kind.the-variants.{Idle, Put, Get, Scan}
 use Rattle.model.specs.declared.types.Permit.{Permit}
 use Rattle.model.specs.declared.types.Permit.the-variants.{Granted, Denied}
 use Rattle.model.specs.declared.types.Process.{Process}
@@ -26,6 +26,7 @@ use Rattle.model.specs.System.{Opens, refused, opened, After, viewOf}
 use Rattle.model.specs.ByValue.{opensBy}
 use Rattle.model.specs.Linearizability.{Linearizable}
 use Rattle.model.proofs.Laws.{refusal-at, numbered, answer-at}
+use Rattle.model.proofs.Words.{joined-halves}
 use Rattle.linearizability.proofs.Simulated.{Same, SameOpening, Simulates, simulated}
 use Rattle.layout.specs.StateWords.{stateFrom, isStateAt}
 use Rattle.process.proofs.RoundTrip.{kind-from}
@@ -57,6 +58,7 @@ unfolding stepMeant stepTold
 step-meant (Stepping.Refused r) = refusal-meant Stepping.Refused r _
 step-meant (Stepping.Moved t) = refl
 step-meant (Stepping.Waited t) = refl
+step-meant (Stepping.Shown t x) = simp (joined-halves (x .key))
 step-meant (Stepping.Finished f) = simp (kind-from (f .kind) .0, answer-at (f .answer))
 
 look-meant : (o : Looking) → lookMeant (lookTold o) ≡ o
@@ -83,6 +85,7 @@ unfolding statusMeant statusTold standing
 standing-meant Idle p = refl
 standing-meant Put p = refl
 standing-meant Get p = refl
+standing-meant Scan p = refl
 
 status-by : (d : Permit) (p : Process) → MeantAs (statusBy d p)
 unfolding statusBy

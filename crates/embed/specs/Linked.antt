@@ -13,6 +13,7 @@ use Rattle.model.specs.declared.types.Looking.{Looking}
 use Rattle.model.specs.declared.types.Inspecting.{Inspecting}
 use Rattle.model.specs.declared.types.Status.{Status}
 use Rattle.model.specs.Choice.{if_then_else_}
+use Rattle.model.specs.Layout.{joined}
 use Rattle.model.specs.Numbers.{refusalOf, answerOf, kindFrom}
 use Rattle.model.specs.Requests.{Operation}
 use Rattle.model.specs.System.{System}
@@ -20,7 +21,7 @@ use Rattle.model.specs.ByValue.{fittingOf, opensBy}
 use Rattle.layout.specs.StateWords.{stateFrom}
 use Rattle.lent.specs.Calls.{OpenIn, openedIn, StartIn, startedIn, StepIn, steppedIn}
 use Rattle.lent.specs.Lent.{Lent, Lending, freshLent, withWords, steppedLent}
-use Rattle.replies.specs.Told.{Told, moved, waited, openTold, startTold, stepTold, lookTold, inspectTold, statusTold}
+use Rattle.replies.specs.Told.{Told, moved, waited, shown, openTold, startTold, stepTold, lookTold, inspectTold, statusTold}
 use Rattle.embed.specs.Calls.{TrayOpen, trayOpen, TrayStart, trayStart, TrayStep, trayStep, trayLook, trayInspect, trayStanding}
 
 -- ---- what a number and answer words mean: the way back from `openTold` .. `statusTold`
@@ -44,6 +45,10 @@ abbrev pub steppedMeant : Told → Stepping
 steppedMeant t =
     if eqb (word t 0) moved then Stepping.Moved (word t 1)
     else if eqb (word t 0) waited then Stepping.Waited (word t 1)
+    else if eqb (word t 0) shown then Stepping.Shown (word t 1) (record {
+      key = joined (word t 2) (word t 3);
+      version = record { value = word t 4; timestamp = word t 5 };
+    })
     else Stepping.Finished (record {
       kind = kindFrom (word t 2);
       answer = answerOf (word t 3);

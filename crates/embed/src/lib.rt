@@ -3,7 +3,7 @@
 ghost use mathlib.Core.Path.{_≡_};
 ghost use mathlib.Core.List.{[], _∷_};
 ghost use Rattle.model.specs.Layout.{limits};
-ghost use Rattle.model.specs.Requests.{put, get};
+ghost use Rattle.model.specs.Requests.{put, get, scan};
 ghost use Rattle.process.specs.ProcessWords.{sizes};
 ghost use Rattle.replies.specs.Told.{reply};
 ghost use Rattle.embed.specs.Calls.{trayNodeWords, trayReadingWords, trayLook, trayInspect, trayStanding};
@@ -14,6 +14,7 @@ use lent::query::look_in;
 use lent::query::status_in;
 use lentstart::start::start_get_in;
 use lentstart::start::start_put_in;
+use lentstart::start::start_scan_in;
 use lentstep::step::step_in;
 use model::types::Key;
 use model::types::State;
@@ -46,7 +47,7 @@ pub extern "C" fn tray_state_words() -> usize
     Sizes::STATE
 }
 
-// A count for each answer that a call can end with.
+// A count for each answer that a put or a get can end with.
 #[no_mangle]
 pub extern "C" fn tray_tally_words() -> usize
     ensures { λ r. ⌜ r ≡ limits .tally ⌝ }
@@ -128,6 +129,24 @@ pub extern "C" fn tray_start_get(
         ≡ trayStart (now (state .entry)) (now (nodes .entry)) (now (readings .entry)) station (get tray) ⌝ }
 {
     let outcome = start_get_in(state, nodes, readings, station, tray);
+    tell_start(outcome, tick)
+}
+
+// As a get is started, for all trays from the first number to the last.
+#[no_mangle]
+pub extern "C" fn tray_start_sweep(
+    state: &mut [u32],
+    nodes: &[u32],
+    readings: &[u32],
+    station: u32,
+    first: Key,
+    last: Key,
+    tick: &mut u32,
+) -> u32
+    ensures { λ r. ⌜ trayStarted (reply r (now (tick .exit) ∷ [])) (now (state .exit))
+        ≡ trayStart (now (state .entry)) (now (nodes .entry)) (now (readings .entry)) station (scan first last) ⌝ }
+{
+    let outcome = start_scan_in(state, nodes, readings, station, first, last);
     tell_start(outcome, tick)
 }
 

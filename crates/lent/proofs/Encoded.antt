@@ -8,7 +8,7 @@ use lib.ListN.{length, drop, length-set, length-drop}
 use lib.Seq.{length-take-le}
 use Rattle.model.specs.declared.types.Call.{Call}
 use Rattle.model.specs.declared.types.Move.{Move}
-use Rattle.model.specs.declared.types.Move.the-variants.{Refuse, Wait, Go, Note, Commit, End}
+use Rattle.model.specs.declared.types.Move.the-variants.{Refuse, Wait, Go, Note, Commit, Show, End}
 use Rattle.model.specs.declared.types.Permit.{Permit}
 use Rattle.model.specs.declared.types.Permit.the-variants.{Granted, Denied}
 use Rattle.model.specs.declared.types.Process.{Process}
@@ -17,11 +17,11 @@ use Rattle.model.specs.declared.types.State.{State}
 use Rattle.model.specs.Layout.{Memory, levels, limits}
 use Rattle.model.specs.State.{processAt, memoryOf}
 use Rattle.model.specs.Phases.{Moved, refuses, transitionOf}
-use Rattle.model.specs.Requests.{Operation, keyOf}
+use Rattle.model.specs.Requests.{Operation, firstOf, lastOf}
 use Rattle.model.specs.Calls.{begun, callFor, startPermit, startBy, startOf, processAfter, Store, storeAfter, Stepped, stepPermit, stepBy, stepOf, storeOf}
 use Rattle.model.proofs.Tests.{if-by}
 use Rattle.refusals.proofs.Laws.{may-start, may-step}
-use Rattle.process.specs.ProcessWords.{sizes}
+use Rattle.process.specs.ProcessWords.{sizes, processOffsets}
 use Rattle.layout.specs.StateWords.{stateWords, stateFrom, isState, part, written}
 use Rattle.layout.specs.StateWords as words
 use Rattle.layout.proofs.Laws.{process-at, state-facts, state-back}
@@ -52,6 +52,7 @@ after-remembers tick p Wait h = h
 after-remembers tick p (Go c) h = h
 after-remembers tick p (Note c) h = length-set (p .preds) (p .cursor .level) (p .cursor .pred) ∙ h
 after-remembers tick p (Commit c a) h = h
+after-remembers tick p (Show c x) h = h
 after-remembers tick p (End a v e) h = refl
 
 module _ (w : List ℕ) (i : ℕ) (known : isState w ≡ true) where
@@ -61,12 +62,12 @@ module _ (w : List ℕ) (i : ℕ) (known : isState w ≡ true) where
 -- ---- start
 
 module _ (w nodes versions : List ℕ) (i : ℕ) (known : isState w ≡ true) (op : Operation) where
-  let-pass : (p : Permit) (c : Call) → startPermit (stateFrom w) nodes versions i (keyOf op) ≡ p
+  let-pass : (p : Permit) (c : Call) → startPermit (stateFrom w) nodes versions i (firstOf op) (lastOf op) ≡ p
       → written w i (startBy p (stateFrom w) i c .state) ≡ stateWords (startBy p (stateFrom w) i c .state)
   unfolding startBy
   let-pass (Denied r) c e = same w i known
   let-pass Granted c e =
-      let f = may-start (stateFrom w) nodes versions i (keyOf op) refl e in
+      let f = may-start (stateFrom w) nodes versions i (firstOf op) (lastOf op) refl e in
       let l = f .lawful .processes in
       written-state w i (begun c) (stateFrom w .counts) known (omega (arith, f .process)) (process-long (begun c) refl)
 
@@ -74,7 +75,7 @@ module _ (w nodes versions : List ℕ) (i : ℕ) (known : isState w ≡ true) (o
   pub start-encoded : startIn w nodes versions i op ≡ startEncoded (startOf (stateFrom w) nodes versions i op)
   unfolding startIn startOf
   start-encoded =
-      simp (state-at w known i, let-pass (startPermit (stateFrom w) nodes versions i (keyOf op)) (callFor op (stateFrom w .events + 1)) refl)
+      simp (state-at w known i, let-pass (startPermit (stateFrom w) nodes versions i (firstOf op) (lastOf op)) (callFor op (stateFrom w .events + 1)) refl)
 
 -- on the words of a state: the store's start, encoded
 pub start-of : (s : State) (nodes versions : List ℕ) (i : ℕ) (op : Operation) → length (s .process) ≡ limits .processes → Remembers (s .process)
@@ -93,7 +94,7 @@ module _ (w nodes versions tally : List ℕ) (i : ℕ) (known : isState w ≡ tr
   remembers h =
       let fits : words.startOf i + sizes .process ≤ length w = omega (arith, h, state-facts w known .long) in
       let long : length (part w i) ≡ sizes .process = length-take-le (sizes .process) (drop (words.startOf i) w) (rw length-drop (omega (arith, fits))) in
-      ap (λ p. length (p .preds)) (process-at w i h) ∙ length-take-le 6 (drop 13 (part w i)) (rw length-drop (omega (arith, long)))
+      ap (λ p. length (p .preds)) (process-at w i h) ∙ length-take-le levels (drop (processOffsets .preds) (part w i)) (rw length-drop (omega (arith, long)))
 
   moved : i < limits .processes → (v : Move) (m : Memory) → written w i (storeAfter store i v m .state) ≡ stateWords (storeAfter store i v m .state)
   moved h v m = if-by (λ (x : Store). written w i (x .state) ≡ stateWords (x .state)) (refuses v) (λ t. same w i known) λ t.

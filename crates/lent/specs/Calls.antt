@@ -65,8 +65,8 @@ abbrev pub startUnless : (words : List ℕ) → ℕ → StartResult → StartIn
 startUnless w i r = if isStateAt w i then startWritten w i r else startedIn (Starting.Refused Corrupt) w
 
 -- the call that has these parts, and then a tick
-abbrev pub callWith : Kind → (key value timestamp top tick : ℕ) → Call
-callWith kind k v t top tick = record { kind = kind; key = k; value = v; timestamp = t; top = top; start = tick }
+abbrev pub callWith : Kind → (key last value timestamp top tick : ℕ) → Call
+callWith kind k last v t top tick = record { kind = kind; key = k; last = last; value = v; timestamp = t; top = top; start = tick }
 
 -- the words with a call begun in those of the process at a place, and its event
 abbrev pub begunIn : (words : List ℕ) (at : ℕ) → Call → List ℕ

@@ -1,9 +1,9 @@
-// Starts of a put and of a get: the process's words and the count of events are written.
+// Starts of a put, of a get and of a scan: the process's words and the count of events are written.
 ghost use mathlib.Core.Path.{_≡_};
 ghost use Prim.Native.Nat.{_+_, _≤_};
 ghost use lib.ListN.{length};
 ghost use Rattle.process.specs.ProcessWords.{sizes};
-ghost use Rattle.model.specs.Requests.{put, get};
+ghost use Rattle.model.specs.Requests.{put, get, scan};
 ghost use Rattle.lent.specs.Calls.{callWith, startedIn, startWithIn, begunIn, startIn};
 use calls::begin::begin;
 use calls::begin::top_of;
@@ -38,7 +38,7 @@ fn begin_in(words: &mut [u32], at: usize, call: Call)
     put_event(words, tick, counts);
 }
 
-// What a put and a get share. The call comes in its parts: its tick is known only where the start is let pass, and the
+// What all starts share. The call comes in its parts: its tick is known only where the start is let pass, and the
 // record, which is passed by its address, costs a start four instructions more.
 fn start_in(
     words: &mut [u32],
@@ -47,13 +47,14 @@ fn start_in(
     process: u32,
     kind: Kind,
     key: Key,
+    last: Key,
     value: u32,
     timestamp: u32,
     top: u32,
 ) -> Starting
     ensures { λ r. ⌜ startedIn r (now (words .exit))
         ≡ startWithIn (now (words .entry)) (now (nodes .entry)) (now (versions .entry)) process
-        (callWith kind key value timestamp top) ⌝ }
+        (callWith kind key last value timestamp top) ⌝ }
 {
     if !is_state_at(words, process) {
         return Starting::Refused(Refusal::Corrupt);
@@ -67,6 +68,7 @@ fn start_in(
         versions,
         process,
         key,
+        last,
     );
     match permit {
         Permit::Denied(refusal) => Starting::Refused(refusal),
@@ -75,6 +77,7 @@ fn start_in(
             let call = Call {
                 kind,
                 key,
+                last,
                 value,
                 timestamp,
                 top,
@@ -108,6 +111,7 @@ pub fn start_put_in(
         process,
         Kind::Put,
         key,
+        key,
         value,
         timestamp,
         top,
@@ -125,5 +129,42 @@ pub fn start_get_in(
     ensures { λ r. ⌜ startedIn r (now (words .exit))
         ≡ startIn (now (words .entry)) (now (nodes .entry)) (now (versions .entry)) process (get key) ⌝ }
 {
-    start_in(words, nodes, versions, process, Kind::Get, key, 0, 0, 0)
+    start_in(
+        words,
+        nodes,
+        versions,
+        process,
+        Kind::Get,
+        key,
+        key,
+        0,
+        0,
+        0,
+    )
+}
+
+// A scan of the keys from the first to the last.
+pub fn start_scan_in(
+    words: &mut [u32],
+    nodes: &[u32],
+    versions: &[u32],
+    process: u32,
+    first: Key,
+    last: Key,
+) -> Starting
+    ensures { λ r. ⌜ startedIn r (now (words .exit))
+        ≡ startIn (now (words .entry)) (now (nodes .entry)) (now (versions .entry)) process (scan first last) ⌝ }
+{
+    start_in(
+        words,
+        nodes,
+        versions,
+        process,
+        Kind::Scan,
+        first,
+        last,
+        0,
+        0,
+        0,
+    )
 }

@@ -3,6 +3,7 @@ use Prim.Native.Nat.{ℕ, _-_}
 use mathlib.Core.List.{List, [], _∷_}
 use lib.ListN.{replicate}
 use Rattle.model.specs.declared.types.Finish.{Finish}
+use Rattle.model.specs.declared.types.Item.{Item}
 use Rattle.model.specs.declared.types.Refusal.{Refusal}
 use Rattle.model.specs.declared.types.Opening.{Opening}
 use Rattle.model.specs.declared.types.Starting.{Starting}
@@ -10,6 +11,7 @@ use Rattle.model.specs.declared.types.Stepping.{Stepping}
 use Rattle.model.specs.declared.types.Looking.{Looking}
 use Rattle.model.specs.declared.types.Inspecting.{Inspecting}
 use Rattle.model.specs.declared.types.Status.{Status}
+use Rattle.model.specs.Layout.{lowHalf, highHalf}
 use Rattle.model.specs.Numbers.{numberOf, answerNumber, kindNumber}
 
 pub record Told : Type 0 where
@@ -57,6 +59,9 @@ waited = 1
 abbrev pub finished : ℕ
 finished = 2
 
+abbrev pub shown : ℕ
+shown = 3
+
 -- what an inspection found, in its first word; sound is 0
 abbrev pub fault : ℕ
 fault = 1
@@ -65,7 +70,11 @@ fault = 1
 abbrev pub eventWords : (told tick : ℕ) → List ℕ
 eventWords told t = told ∷ t ∷ replicate (stepWords - 2) 0
 
--- the same, and "kind, answer, value, stamp [..] and the ticks of start, effect"
+-- the same, and P1's "its number and newest reading", the number in two halves
+abbrev pub shownWords : (tick : ℕ) → Item → List ℕ
+shownWords t x = shown ∷ t ∷ lowHalf (x .key) ∷ highHalf (x .key) ∷ x .version .value ∷ x .version .timestamp ∷ 0 ∷ 0 ∷ []
+
+-- what the step did, the tick, and "kind, answer, value, stamp [..] and the ticks of start, effect"
 abbrev pub finishWords : Finish → List ℕ
 finishWords f =
     finished ∷ f .finish ∷ kindNumber (f .kind) ∷ answerNumber (f .answer) ∷ f .value ∷ f .timestamp ∷ f .start ∷ f .effect ∷ []
@@ -74,6 +83,7 @@ unfoldable pub stepTold : Stepping → Told
 stepTold (Stepping.Refused r) = refused stepWords r
 stepTold (Stepping.Moved t) = accepted (eventWords moved t)
 stepTold (Stepping.Waited t) = accepted (eventWords waited t)
+stepTold (Stepping.Shown t x) = accepted (shownWords t x)
 stepTold (Stepping.Finished f) = accepted (finishWords f)
 
 -- value and stamp

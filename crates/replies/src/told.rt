@@ -2,9 +2,10 @@
 // nothing of an earlier call is left there to be taken for an answer.
 ghost use mathlib.Core.Path.{_≡_};
 ghost use mathlib.Core.List.{[], _∷_};
-ghost use Rattle.replies.specs.Told.{reply, openTold, startTold, eventWords, finishWords, stepTold, lookTold, inspectTold, statusTold};
+ghost use Rattle.replies.specs.Told.{reply, openTold, startTold, eventWords, shownWords, finishWords, stepTold, lookTold, inspectTold, statusTold};
 use model::types::Finish;
 use model::types::Inspecting;
+use model::types::Item;
 use model::types::Looking;
 use model::types::Opening;
 use model::types::Starting;
@@ -13,6 +14,8 @@ use model::types::Stepping;
 use numbers::answer_number;
 use numbers::kind_number;
 use numbers::number_of;
+use values::halves::high_half;
+use values::halves::low_half;
 
 // How many words the answer of each call has.
 pub const STEP_WORDS: usize = 8;
@@ -29,6 +32,8 @@ const MOVED: u32 = 0;
 const WAITED: u32 = 1;
 
 const FINISHED: u32 = 2;
+
+const SHOWN: u32 = 3;
 
 // What an inspection found, in its first word; sound is 0.
 const FAULT: u32 = 1;
@@ -59,11 +64,30 @@ pub fn tell_start(outcome: Starting, tick: &mut u32) -> u32
     }
 }
 
-// What a step tells that ends no call.
+// What a step tells that neither shows nor ends.
 fn event_words(told: u32, tick: u32) -> [u32; STEP_WORDS]
     ensures { λ r. ⌜ r ≡ eventWords told tick ⌝ }
 {
     [told, tick, 0, 0, 0, 0, 0, 0]
+}
+
+// What a step of a scan tells that shows a key and its newest version.
+fn shown_words(tick: u32, item: Item) -> [u32; STEP_WORDS]
+    ensures { λ r. ⌜ r ≡ shownWords tick item ⌝ }
+{
+    let low = low_half(item.key);
+    let high = high_half(item.key);
+    let version = item.version;
+    [
+        SHOWN,
+        tick,
+        low,
+        high,
+        version.value,
+        version.timestamp,
+        0,
+        0,
+    ]
 }
 
 // What a finishing step tells: the tick stands second in every step's answer, so the finish comes before the kind.
@@ -99,6 +123,10 @@ pub fn tell_step(outcome: Stepping, answer: &mut [u32; STEP_WORDS]) -> u32
         }
         Stepping::Waited(tick) => {
             *answer = event_words(WAITED, tick);
+            0
+        }
+        Stepping::Shown(tick, item) => {
+            *answer = shown_words(tick, item);
             0
         }
         Stepping::Finished(finish) => {

@@ -13,9 +13,9 @@ opened r nodes versions = record { result = r; nodes = nodes; versions = version
 
 -- a call with the tick of its start
 abbrev pub timed : Call → (tick : ℕ) → Call
-timed c tick = record { kind = c .kind; key = c .key; value = c .value; timestamp = c .timestamp; top = c .top; start = tick }
+timed c tick = record { kind = c .kind; key = c .key; last = c .last; value = c .value; timestamp = c .timestamp; top = c .top; start = tick }
 
 -- a start with a call that has no tick yet: it gets that of the event that the start is
 abbrev pub startWith : State → (nodes versions : List ℕ) → (process : ℕ) → (call : (tick : ℕ) → Call) → StartResult
 startWith s nodes versions i call =
-    let c = call (s .events + 1) in startBy (startPermit s nodes versions i (c .key)) s i c
+    let c = call (s .events + 1) in startBy (startPermit s nodes versions i (c .key) (c .last)) s i c

@@ -1,6 +1,6 @@
-// Starts of a put and of a get.
+// Starts of a put, of a get and of a scan.
 ghost use mathlib.Core.Path.{_≡_};
-ghost use Rattle.model.specs.Requests.{put, get};
+ghost use Rattle.model.specs.Requests.{put, get, scan};
 ghost use Rattle.model.specs.Calls.{startOf};
 ghost use Rattle.store.specs.Contracts.{timed, startWith};
 use calls::begin::begin;
@@ -16,7 +16,7 @@ use model::types::Starting;
 use model::types::State;
 use refusals::permit::start_permit;
 
-// What a put and a get share. `asked` is the call but for its tick, which a start has only where it is let pass.
+// What all starts share. `asked` is the call but for its tick, which a start has only where it is let pass.
 fn start(mut s: State, nodes: &[u32], versions: &[u32], process: u32, asked: Call) -> StartResult
     ensures { λ r. ⌜ r ≡ startWith s (now (nodes .entry)) (now (versions .entry)) process (timed asked) ⌝ }
 {
@@ -25,7 +25,7 @@ fn start(mut s: State, nodes: &[u32], versions: &[u32], process: u32, asked: Cal
     let running = p.call;
     let kind = running.kind;
     let h = header_of(s);
-    let permit = start_permit(&h, kind, nodes, versions, process, asked.key);
+    let permit = start_permit(&h, kind, nodes, versions, process, asked.key, asked.last);
     match permit {
         Permit::Denied(refusal) => StartResult {
             outcome: Starting::Refused(refusal),
@@ -62,6 +62,7 @@ pub fn start_put(
     let asked = Call {
         kind: Kind::Put,
         key,
+        last: key,
         value,
         timestamp,
         top,
@@ -77,6 +78,30 @@ pub fn start_get(s: State, nodes: &[u32], versions: &[u32], process: u32, key: K
     let asked = Call {
         kind: Kind::Get,
         key,
+        last: key,
+        value: 0,
+        timestamp: 0,
+        top: 0,
+        start: 0,
+    };
+    start(s, nodes, versions, process, asked)
+}
+
+// A scan of the keys from the first to the last.
+pub fn start_scan(
+    s: State,
+    nodes: &[u32],
+    versions: &[u32],
+    process: u32,
+    first: Key,
+    last: Key,
+) -> StartResult
+    ensures { λ r. ⌜ r ≡ startOf s (now (nodes .entry)) (now (versions .entry)) process (scan first last) ⌝ }
+{
+    let asked = Call {
+        kind: Kind::Scan,
+        key: first,
+        last,
         value: 0,
         timestamp: 0,
         top: 0,

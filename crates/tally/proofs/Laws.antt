@@ -8,7 +8,7 @@ use lib.Dec.{ltb}
 use lib.ListN.{length, getD, set, drop}
 use lib.Seq.{drop-cons, drop-length, set-getD}
 use Rattle.model.specs.declared.types.Answer.{Answer}
-use Rattle.model.specs.declared.types.Answer.the-variants.{TooOld, VersionsFull, Added, KeysFull, New, Found, None}
+use Rattle.model.specs.declared.types.Answer.the-variants.{TooOld, VersionsFull, Added, KeysFull, New, Found, None, Swept}
 use Rattle.model.specs.Choice.{if_then_else_}
 use Rattle.model.specs.Layout.{limits}
 use Rattle.model.specs.Numbers.{answerNumber}
@@ -35,15 +35,17 @@ counted-set w i false = sym (set-getD w i 0)
 
 pub counted-grown : (w : List ℕ) (a : Answer) → length w ≡ limits .tally → counted w a ≡ wordsOf (grownTally (tallyIn w) a)
 unfolding counted moreOf answerNumber grownTally
-counted-grown w a h =
-    counted-set w (answerNumber a) (ltb (getD w (answerNumber a) 0) (limits .count))
-    ∙ ap (λ v. set v (answerNumber a) (moreOf (getD w (answerNumber a) 0))) (seven w h) ∙ at a
+counted-grown w a h = at a
   where
-    at : (a : Answer) → set (wordsOf (tallyIn w)) (answerNumber a) (moreOf (getD w (answerNumber a) 0)) ≡ wordsOf (grownTally (tallyIn w) a)
-    at TooOld = refl
-    at VersionsFull = refl
-    at Added = refl
-    at KeysFull = refl
-    at New = refl
-    at Found = refl
-    at None = refl
+    one : (i : ℕ) → (if ltb (getD w i 0) (limits .count) then set w i (getD w i 0 + 1) else w) ≡ set (wordsOf (tallyIn w)) i (moreOf (getD w i 0))
+    one i = counted-set w i (ltb (getD w i 0) (limits .count)) ∙ ap (λ v. set v i (moreOf (getD w i 0))) (seven w h)
+
+    at : (a : Answer) → counted w a ≡ wordsOf (grownTally (tallyIn w) a)
+    at TooOld = one 0
+    at VersionsFull = one 1
+    at Added = one 2
+    at KeysFull = one 3
+    at New = one 4
+    at Found = one 5
+    at None = one 6
+    at Swept = seven w h

@@ -2,7 +2,7 @@
 use Prim.Native.Nat.{ℕ, _+_}
 use lib.Dec.{ltb}
 use Rattle.model.specs.declared.types.Answer.{Answer}
-use Rattle.model.specs.declared.types.Answer.the-variants.{TooOld, VersionsFull, Added, KeysFull, New, Found, None}
+use Rattle.model.specs.declared.types.Answer.the-variants.{TooOld, VersionsFull, Added, KeysFull, New, Found, None, Swept}
 use Rattle.model.specs.Choice.{if_then_else_}
 use Rattle.model.specs.Layout.{limits}
 use Rattle.tally.specs.declared.types.Tally.{Tally}
@@ -22,7 +22,7 @@ tallyOf a b c d e f g = record {
   none = g;
 }
 
--- "the one count of that answer grows": the other six are as they were
+-- "the one count of that answer grows": the other six are as they were. Of a sweep P1 says: "no tally counts it"
 unfoldable pub grownTally : Tally → Answer → Tally
 grownTally t TooOld = tallyOf (moreOf (t .«too_old»)) (t .«versions_full») (t .added) (t .«keys_full») (t .new) (t .found) (t .none)
 grownTally t VersionsFull = tallyOf (t .«too_old») (moreOf (t .«versions_full»)) (t .added) (t .«keys_full») (t .new) (t .found) (t .none)
@@ -31,3 +31,4 @@ grownTally t KeysFull = tallyOf (t .«too_old») (t .«versions_full») (t .adde
 grownTally t New = tallyOf (t .«too_old») (t .«versions_full») (t .added) (t .«keys_full») (moreOf (t .new)) (t .found) (t .none)
 grownTally t Found = tallyOf (t .«too_old») (t .«versions_full») (t .added) (t .«keys_full») (t .new) (moreOf (t .found)) (t .none)
 grownTally t None = tallyOf (t .«too_old») (t .«versions_full») (t .added) (t .«keys_full») (t .new) (t .found) (moreOf (t .none))
+grownTally t Swept = t

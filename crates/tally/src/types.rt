@@ -1,4 +1,4 @@
-// Finished calls of each answer, in the order of `Answer`.
+// Finished calls of each answer that is counted, in the order of `Answer`.
 pub struct Tally {
     pub too_old: u32,
     pub versions_full: u32,

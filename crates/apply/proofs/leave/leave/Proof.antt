@@ -104,6 +104,27 @@ put-event-requires-4 c κs = search needs
 enum-known-mv-4 : tie.Need-enum-known-mv-4
 enum-known-mv-4 c = search needs
 
+mul-apply-show : tie.Need-mul-apply-show
+mul-apply-show c = search needs
+
+sub-apply-show : tie.Need-sub-apply-show
+sub-apply-show c = search needs
+
+part-apply-show-start : tie.Need-part-apply-show-start
+part-apply-show-start c = search needs
+
+part-apply-show-end : tie.Need-part-apply-show-end
+part-apply-show-end c = search needs
+
+apply-show-requires : tie.Need-apply-show-requires
+apply-show-requires c κs = let s = c .before .before .before .before .before .before in (long s, own s)
+
+put-event-requires-5 : tie.Need-put-event-requires-5
+put-event-requires-5 c κs = search needs
+
+enum-known-mv-5 : tie.Need-enum-known-mv-5
+enum-known-mv-5 c = search needs
+
 finish-requires : tie.Need-finish-requires
 finish-requires c κs = search needs
 
@@ -161,11 +182,23 @@ returns-5 c =
 same-length-5 : tie.Need-same-length-5
 same-length-5 c = search needs
 
+returns-6 : tie.Need-returns-6
+unfolding outcomeOf tallyAfter
+returns-6 c =
+    let s = c .before .before .before .before .before .before .before .before .before .before .before .before .before in
+    let a = s .args in
+    let p = c .before .before .before .before .before .before .apply-show in
+    rw (c .before .before .before .before .before .before .before .before .before .mv4 .given .1) (left-moved (a .words .now) _ (a .at) (a .tick) (a .counts) (fits s) _ (p .last .0) _ _ _ refl
+    (p .ensures (a .tick) _) (p .kept .0 ∙ long s) (c .before .before .put-event5 .ensures) refl refl)
+
 same-length-6 : tie.Need-same-length-6
 same-length-6 c = search needs
 
-returns-6 : tie.Need-returns-6
-returns-6 c = rw (c .before .before .before .before .before .before .before .before .mv4 .given .1) (c .before .before .before .before .finish .ensures)
+same-length-7 : tie.Need-same-length-7
+same-length-7 c = search needs
+
+returns-7 : tie.Need-returns-7
+returns-7 c = rw (c .before .before .before .before .before .before .before .before .mv5 .given .1) (c .before .before .before .before .finish .ensures)
 
 pub leave-spec : {M : Type 1} → statement M
 leave-spec =
@@ -197,6 +230,13 @@ leave-spec =
     apply-commit-requires
     put-event-requires-4
     enum-known-mv-4
+    mul-apply-show
+    sub-apply-show
+    part-apply-show-start
+    part-apply-show-end
+    apply-show-requires
+    put-event-requires-5
+    enum-known-mv-5
     finish-requires
     returns
     same-length
@@ -208,5 +248,7 @@ leave-spec =
     same-length-4
     returns-5
     same-length-5
+    returns-6
     same-length-6
-    returns-6)
+    same-length-7
+    returns-7)

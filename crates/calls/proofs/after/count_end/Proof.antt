@@ -19,6 +19,9 @@ enum-told-4 c = search needs
 enum-told-5 : tie.Need-enum-told-5
 enum-told-5 c = search needs
 
+enum-told-6 : tie.Need-enum-told-6
+enum-told-6 c = search needs
+
 enum-known-mv : tie.Need-enum-known-mv
 enum-known-mv c = search needs
 
@@ -45,16 +48,20 @@ returns-5 : tie.Need-returns-5
 unfolding tallyAfter
 returns-5 c = simp (c .enum-told5 .given .1)
 
+returns-6 : tie.Need-returns-6
+unfolding tallyAfter
+returns-6 c = simp (c .enum-told6 .given .1)
+
 same-length : tie.Need-same-length
 same-length c = search needs
 
-returns-6 : tie.Need-returns-6
+returns-7 : tie.Need-returns-7
 unfolding tallyAfter
-returns-6 c = simp (c .before .before .count .ensures, c .before .before .before .before .before .mv .given .1)
+returns-7 c = simp (c .before .before .count .ensures, c .before .before .before .before .before .mv .given .1)
 
 pub count-end-spec : {M : Type 1} → statement M
 count-end-spec =
     tie.close
     (tie.spec
-    enum-told enum-told-2 enum-told-3 enum-told-4 enum-told-5 enum-known-mv count-requires returns returns-2 returns-3
-    returns-4 returns-5 same-length returns-6)
+    enum-told enum-told-2 enum-told-3 enum-told-4 enum-told-5 enum-told-6 enum-known-mv count-requires returns returns-2 returns-3
+    returns-4 returns-5 returns-6 same-length returns-7)

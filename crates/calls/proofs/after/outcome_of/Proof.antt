@@ -22,6 +22,9 @@ enum-told-5 c = search needs
 enum-known-mv : tie.Need-enum-known-mv
 enum-known-mv c = search needs
 
+enum-known-mv-2 : tie.Need-enum-known-mv-2
+enum-known-mv-2 c = search needs
+
 returns : tie.Need-returns
 unfolding outcomeOf
 returns c = simp (c .enum-told .given .1)
@@ -46,9 +49,13 @@ returns-6 : tie.Need-returns-6
 unfolding outcomeOf
 returns-6 c = simp (c .before .mv .given .1)
 
+returns-7 : tie.Need-returns-7
+unfolding outcomeOf
+returns-7 c = simp (c .before .mv2 .given .1)
+
 pub outcome-of-spec : {M : Type 1} → statement M
 outcome-of-spec =
     tie.close
     (tie.spec
-    enum-told enum-told-2 enum-told-3 enum-told-4 enum-told-5 enum-known-mv returns returns-2 returns-3 returns-4
-    returns-5 returns-6)
+    enum-told enum-told-2 enum-told-3 enum-told-4 enum-told-5 enum-known-mv enum-known-mv-2 returns returns-2 returns-3 returns-4
+    returns-5 returns-6 returns-7)

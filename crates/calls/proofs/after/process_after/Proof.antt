@@ -22,6 +22,9 @@ remember-requires c κs = search needs
 enum-known-mv-3 : tie.Need-enum-known-mv-3
 enum-known-mv-3 c = search needs
 
+enum-known-mv-4 : tie.Need-enum-known-mv-4
+enum-known-mv-4 c = search needs
+
 enum-told-3 : tie.Need-enum-told-3
 enum-told-3 c = search needs
 
@@ -50,11 +53,15 @@ returns-5 c = simp (c .before .mv3 .given .1)
 
 returns-6 : tie.Need-returns-6
 unfolding processAfter
-returns-6 c = simp (c .idle .ensures, c .before .enum-told3 .given .1)
+returns-6 c = simp (c .before .mv4 .given .1)
+
+returns-7 : tie.Need-returns-7
+unfolding processAfter
+returns-7 c = simp (c .idle .ensures, c .before .enum-told3 .given .1)
 
 pub process-after-spec : {M : Type 1} → statement M
 process-after-spec =
     tie.close
     (tie.spec
-    enum-told enum-told-2 enum-known-mv enum-known-mv-2 remember-requires enum-known-mv-3 enum-told-3 idle-requires
-    returns returns-2 returns-3 returns-4 returns-5 returns-6)
+    enum-told enum-told-2 enum-known-mv enum-known-mv-2 remember-requires enum-known-mv-3 enum-known-mv-4 enum-told-3 idle-requires
+    returns returns-2 returns-3 returns-4 returns-5 returns-6 returns-7)

@@ -24,7 +24,7 @@ start c = c .before .before .before .before .before .before .before .before .bef
 
 -- the call at a tick
 abbrev call : tie.Start → ℕ → Call
-call c t = let a = c .args in callWith (a .kind) (a .key) (a .value) (a .timestamp) (a .top) t
+call c t = let a = c .args in callWith (a .kind) (a .key) (a .last) (a .value) (a .timestamp) (a .top) t
 
 known : (c : tie.Else1) → let a = c .before .before .before .before .before .before .args in isStateAt (a .words .now) (a .process) ≡ true
 known c = sym (c .before .is-state-at .ensures) ∙ not-false _ (c .if1 .left)
@@ -34,7 +34,7 @@ long c = part-facts _ _ (known c) .0
 
 -- the permit is the definition's: the kind was read at the process's own place
 permit-is : (c : tie.After-start-permit) → let a = start c .args in
-    c .start-permit .result ≡ startPermit (stateFrom (a .words .now)) (a .nodes .now) (a .versions .now) (a .process) (a .key)
+    c .start-permit .result ≡ startPermit (stateFrom (a .words .now)) (a .nodes .now) (a .versions .now) (a .process) (a .key) (a .last)
 permit-is c =
     let a = start c .args in
     c .start-permit .ensures _
@@ -45,7 +45,7 @@ permit-is c =
 
 may : (c : tie.After-enum-told) → let a = start (c .before .before) .args in
     MayStart (stateFrom (a .words .now)) (a .nodes .now) (a .versions .now) (a .process)
-may c = may-start _ _ _ _ _ (permit-is (c .before .before)) (c .enum-told .given .1)
+may c = may-start _ _ _ _ _ _ (permit-is (c .before .before)) (c .enum-told .given .1)
 
 few : (c : tie.After-enum-told) → start (c .before .before) .args .process < limits .processes
 few c = let f = may c in let l = f .lawful .processes in omega (arith, f .process)

@@ -25,6 +25,12 @@ event-words-requires-2 c κs = search needs
 enum-known-outcome-4 : tie.Need-enum-known-outcome-4
 enum-known-outcome-4 c = search needs
 
+shown-words-requires : tie.Need-shown-words-requires
+shown-words-requires c κs = search needs
+
+enum-known-outcome-5 : tie.Need-enum-known-outcome-5
+enum-known-outcome-5 c = search needs
+
 finish-words-requires : tie.Need-finish-words-requires
 finish-words-requires c κs = search needs
 
@@ -42,7 +48,11 @@ returns-3 c = simp (c .event-words2 .ensures, c .before .before .outcome3 .given
 
 returns-4 : tie.Need-returns-4
 unfolding stepTold
-returns-4 c = simp (c .finish-words .ensures, c .before .before .outcome4 .given .1)
+returns-4 c = simp (c .shown-words .ensures, c .before .before .outcome4 .given .1)
+
+returns-5 : tie.Need-returns-5
+unfolding stepTold
+returns-5 c = simp (c .finish-words .ensures, c .before .before .outcome5 .given .1)
 
 pub tell-step-spec : {M : Type 1} → statement M
 tell-step-spec =
@@ -55,8 +65,11 @@ tell-step-spec =
     enum-known-outcome-3
     event-words-requires-2
     enum-known-outcome-4
+    shown-words-requires
+    enum-known-outcome-5
     finish-words-requires
     returns
     returns-2
     returns-3
-    returns-4)
+    returns-4
+    returns-5)

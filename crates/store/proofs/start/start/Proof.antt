@@ -10,7 +10,7 @@ use Rattle.store.proofs.start.start.Tie as tie
 
 -- the permit is the definition's: the kind was read at the process's own place
 permit-is : (c : tie.After-start-permit) → let a = c .before .before .before .before .before .before .before .before .args in
-    c .start-permit .result ≡ startPermit (a .t1) (a .nodes .now) (a .versions .now) (a .process) (a .asked .key)
+    c .start-permit .result ≡ startPermit (a .t1) (a .nodes .now) (a .versions .now) (a .process) (a .asked .key) (a .asked .last)
 permit-is c =
     c .start-permit .ensures _
     (record {
@@ -20,7 +20,7 @@ permit-is c =
 
 may : (c : tie.After-enum-told) → let a = c .before .before .before .before .before .before .before .before .before .before .args in
     MayStart (a .t1) (a .nodes .now) (a .versions .now) (a .process)
-may c = may-start _ _ _ _ _ (permit-is (c .before .before)) (c .enum-told .given .1)
+may c = may-start _ _ _ _ _ _ (permit-is (c .before .before)) (c .enum-told .given .1)
 
 slot-requires : tie.Need-slot-requires
 slot-requires c κs = search needs

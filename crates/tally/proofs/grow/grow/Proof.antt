@@ -1,5 +1,5 @@
--- A walk of the MIR by hand: the borrow is opened, the answer's arm reads one field, calls `more` and stores what it returns, and the
--- borrow is closed at the grown tally. Which fields an arm has is read off the MIR; that they are the answer's is a fact of `matched`.
+-- A walk of the MIR by hand: the borrow is opened, the answer's arm reads one field, calls `more` and stores what it returns, or does
+-- nothing, and the borrow is closed at the grown tally. Which fields an arm has is read off the MIR; that they are the answer's is a fact of `matched`.
 use mathlib.Core.Path.{_≡_, refl, sym, subst, ap, _∙_}
 use Prim.Native.Nat.{ℕ, zero, suc, _<_, _^_, _+_}
 use mathlib.Core.List.{[], _∷_, List}
@@ -20,7 +20,7 @@ use contract.Monad.{Fun}
 use contract.Running.{givenOf, tables, tablesOf}
 use types.Kit as Kit
 use types.Kit.{Given, Item, Sq, Step, step, runs, anyQ, atRet, ‵, raw, _⊛_, _$_, _∵_, !, qed, by, move, keep, drop, use0, split, join, rewrite, fsplit, fsplit3, fjoin, fjoin3, feqI, suffices, frame, done}
-use types.Run.{look, init, forget, stop, hop, fld, from, load, unit-lit, of-opd, and-then, no-more, assigns, assigns-last, land, first, exec, returns, enter, params1, pass1, pass0, well-typed}
+use types.Run.{look, init, forget, stop, hop, fld, from, load, unit-lit, of-opd, and-then, no-more, assigns, assigns-last, land, first, skips, exec, returns, enter, params1, pass1, pass0, well-typed}
 use types.Part.{whole, sub, look-in, store-in}
 use types.Match.{vrt, look-tag}
 use types.SemTy as SemTy
@@ -44,7 +44,7 @@ use denote.Triple.Table.{entered, cited}
 use denote.Triple.Walked.{says, Stays, stay-ref, stay-none, walkOf, goes-none, goes-ref, ends-at, walked, walk-meets}
 use denote.Exit.{yes}
 use Rattle.model.specs.declared.types.Answer.{Answer}
-use Rattle.model.specs.declared.types.Answer.the-variants.{TooOld, VersionsFull, Added, KeysFull, New, Found, None}
+use Rattle.model.specs.declared.types.Answer.the-variants.{TooOld, VersionsFull, Added, KeysFull, New, Found, None, Swept}
 use Rattle.model.proofs.types.Answer as S
 use Rattle.model.proofs.types.Answer.Laws as S′
 use Rattle.tally.specs.declared.types.Tally.{Tally}
@@ -201,6 +201,9 @@ module _ {M : Type 1} (𝓤 : URA M) (H : Heap 𝓤) (A : Atoms 𝓤) (W : Given
       matched None is wt =
           switches-to ! 6 (load ! (from ! (vrt ! refl (fld ! refl (stop !)))) (look-tag ! 8 (whole !))) refl $ move ! (used 34) $
           counts ! None refl refl refl refl refl refl wt $ back ! (used 34) $ leaves None is
+      matched Swept is wt =
+          switches-to ! 7 (load ! (from ! (vrt ! refl (fld ! refl (stop !)))) (look-tag ! 8 (whole !))) refl $ skips ! $
+          exec ! C Λ E mir.t-2 (atRet E (Post Swept)) $ leaves Swept is
 
     walk : (a : Answer) → Is S.the-row a (answerVal a ∷ []) → Holds (hasTy S′.mir (answerVal a)) × WT (answerVal a)
         → ent 𝓤 (onEntry 𝓤 H A f.signature (κ, tt) (q, tt) (x a) (at a)) (WpFn 𝓤 H C Λ code.function (vptr b o ∷ answerVal a ∷ []) (Post a))
