@@ -9,16 +9,16 @@ use Rattle.model.specs.declared.types.Inspecting.{Inspecting}
 use Rattle.model.specs.declared.types.Status.{Status}
 use Rattle.model.specs.declared.types.Process.{Process}
 use Rattle.model.specs.declared.types.Phase.{Phase}
-use Rattle.model.specs.declared.types.Phase.the-variants.{Walk, Read, Seek, Lock, Check, Update, Make, Link, Release}
+use Rattle.model.specs.declared.types.Phase.the-variants.{Walk, Read, Seek, Lock, Check, Update, Make, Link, Release, Follow}
 use Rattle.model.specs.declared.types.Answer.{Answer}
-use Rattle.model.specs.declared.types.Answer.the-variants.{TooOld, VersionsFull, Added, KeysFull, New, Found, None}
-use Rattle.model.specs.declared.types.Kind.the-variants.{Put, Get}
+use Rattle.model.specs.declared.types.Answer.the-variants.{TooOld, VersionsFull, Added, KeysFull, New, Found, None, Swept}
+use Rattle.model.specs.declared.types.Kind.the-variants.{Put, Get, Scan}
 use Rattle.model.specs.declared.types.Refusal.the-variants.{Corrupt, Damaged, NoKey, NoVersion}
 use Rattle.model.specs.Layout.{nodeWords, versionWords, levels}
 use Rattle.model.specs.Calls.{Store}
 use Rattle.model.specs.History.{step, look}
 use Rattle.model.proofs.Bench.{startGet, Question, call, inspect, status, Said, inspected, stands, Case, said}
-use Rattle.model.proofs.Bench.{fit, put, on, done, shows, no-start, no-step, no-look}
+use Rattle.model.proofs.Bench.{fit, put, on, done, shown, shows, no-start, no-step, no-look}
 
 -- ---- alterations
 
@@ -79,7 +79,7 @@ station p w = let s = w .state in record {
 -- a put of tray 8, value 9, stamp 200, started at tick 20; `effect` is its effect tick
 a-put : Phase → (level pred made top : ℕ) → Answer → (effect : ℕ) → Process
 a-put phase level pred made top a effect = record {
-  call = record { kind = Put; key = 8; value = 9; timestamp = 200; top = top; start = 20 };
+  call = record { kind = Put; key = 8; last = 8; value = 9; timestamp = 200; top = top; start = 20 };
   cursor = record { phase = phase; level = level; pred = pred; made = made };
   effect = record { answer = a; tick = effect };
   preds = replicate levels 0;
@@ -88,7 +88,7 @@ a-put phase level pred made top a effect = record {
 -- the same at release, new, with this node remembered at levels 1 and 2
 climber : (level top remembered : ℕ) → Process
 climber level top x = record {
-  call = record { kind = Put; key = 8; value = 9; timestamp = 200; top = top; start = 20 };
+  call = record { kind = Put; key = 8; last = 8; value = 9; timestamp = 200; top = top; start = 20 };
   cursor = record { phase = Release; level = level; pred = 0; made = 1 };
   effect = record { answer = New; tick = 21 };
   preds = 0 ∷ x ∷ x ∷ 0 ∷ 0 ∷ 0 ∷ [];
@@ -96,7 +96,16 @@ climber level top x = record {
 
 a-get : Phase → (level pred effect : ℕ) → Process
 a-get phase level pred effect = record {
-  call = record { kind = Get; key = 7; value = 0; timestamp = 0; top = 0; start = 20 };
+  call = record { kind = Get; key = 7; last = 7; value = 0; timestamp = 0; top = 0; start = 20 };
+  cursor = record { phase = phase; level = level; pred = pred; made = 1 };
+  effect = record { answer = None; tick = effect };
+  preds = replicate levels 0;
+}
+
+-- a sweep of the trays from first to last
+a-scan : (first last : ℕ) → Phase → (level pred effect : ℕ) → Process
+a-scan first last phase level pred effect = record {
+  call = record { kind = Scan; key = first; last = last; value = 0; timestamp = 0; top = 0; start = 20 };
   cursor = record { phase = phase; level = level; pred = pred; made = 1 };
   effect = record { answer = None; tick = effect };
   preds = replicate levels 0;
@@ -127,6 +136,13 @@ moves f p = stepping f p (on 25)
 -- a step that finishes the put with this answer and effect tick
 finishes : (Store → Store) → Process → Answer → (effect : ℕ) → Case
 finishes f p a effect = stepping f p (done Put a 9 200 20 effect 25)
+
+-- a step that shows tray 7's newest version, and one that finishes the sweep
+seen : (Store → Store) → Process → Case
+seen f p = stepping f p (shown 25 7 6 101)
+
+sweeps : (Store → Store) → Process → Case
+sweeps f p = stepping f p (done Scan Swept 0 0 20 0 25)
 
 corrupt : (Store → Store) → Case
 corrupt f = altered f (status 0) (stands (Status.Refused Corrupt))
@@ -223,6 +239,23 @@ cases =
     finishes same (a-put Release 0 0 1 6 Added 21) Added 21 ∷
     moves same (climber 0 1 1) ∷ breaks same (climber 0 1 2) ∷ breaks same (climber 1 2 2) ∷
     finishes same (climber 1 1 2) New 21 ∷
+    -- P1: "A sweep outside its walk and this following, or another call in the following, is 11."; "swept" is no put's answer
+    moves same (a-scan 7 9 Walk 0 0 0) ∷ seen same (a-scan 7 9 Follow 0 0 0) ∷
+    breaks same (a-scan 7 9 Read 0 1 0) ∷ breaks same (a-scan 7 9 Seek 0 0 0) ∷ breaks same (a-scan 7 9 Lock 0 0 0) ∷
+    breaks same (a-scan 7 9 Check 0 0 0) ∷ breaks same (a-scan 7 9 Update 0 0 0) ∷ breaks same (a-scan 7 9 Make 0 0 0) ∷
+    breaks same (a-scan 7 9 Link 0 0 0) ∷ breaks same (a-scan 7 9 Release 0 0 0) ∷
+    breaks same (a-get Follow 0 0 0) ∷ breaks same (a-put Follow 0 0 0 0 None 0) ∷ breaks same (a-put Follow 0 0 1 0 New 21) ∷
+    breaks same (a-scan 7 9 Walk 0 0 21) ∷ breaks same (a-scan 7 9 Follow 0 0 21) ∷
+    breaks same (a-scan 7 9 Walk 6 0 0) ∷ breaks same (a-scan 7 9 Follow 6 0 0) ∷ breaks same (a-scan 7 9 Follow 0 2 0) ∷
+    breaks same (a-put Release 0 0 1 0 Swept 21) ∷ breaks same (a-put Seek 1 0 1 1 Swept 21) ∷
+    -- follow: a link not in use, a newest version that is 0 or not in use; the link is that of level 0, whatever the level
+    breaks (node 0 4 2) (a-scan 7 9 Walk 0 0 0) ∷ breaks (node 0 4 2) (a-scan 7 9 Follow 0 0 0) ∷
+    breaks (node 1 1 0) (a-scan 7 9 Follow 0 0 0) ∷ breaks (node 1 1 3) (a-scan 7 9 Follow 0 0 0) ∷
+    seen same (a-scan 7 9 Follow 3 0 0) ∷ seen (node 0 7 2) (a-scan 7 9 Follow 3 0 0) ∷
+    -- what is not shown is not read, nor any older version; a tray past the last is "looked at first"
+    moves (node 1 1 0) (a-scan 8 9 Follow 0 0 0) ∷ sweeps (node 1 1 0) (a-scan 5 6 Follow 0 0 0) ∷
+    seen (version 2 2 77) (a-scan 7 9 Follow 0 0 0) ∷ sweeps same (a-scan 9 6 Follow 0 0 0) ∷
+    sweeps (node 0 4 0) (a-scan 7 9 Follow 0 0 0) ∷
     -- "Look: 10, 6, 12, 11, 13 (11 before 13 along the chain)."; a node not in use is not found
     altered (node 2 0 8) (call (look 8 0)) (no-look NoKey) ∷
     altered (node 1 1 0) (call (look 7 0)) (no-look Damaged) ∷
@@ -278,6 +311,6 @@ cases =
 
 -- every case says what is expected of it; `said` opens all that the calls go through
 pub table : map said cases ≡ map (λ (c : Case). c .expected) cases
-unfolding said cases same node version state station a-put climber a-get altered stepping breaks moves finishes corrupt
-    lawful fault sound
+unfolding said cases same node version state station a-put climber a-get a-scan altered stepping breaks moves finishes seen
+    sweeps corrupt lawful fault sound
 table = refl

@@ -1,6 +1,6 @@
 -- A call of a store of demand 3 that is started, and whose steps end it on process and memory, ends it in the store.
 use Prim.Native.Nat.{ℕ, zero, suc, _+_, _-_, _≤_, _<_}
-use mathlib.Core.Bool.{and-eq-true-iff}
+use mathlib.Core.Bool.{_&&_, and-eq-true-iff}
 use mathlib.Core.List.{[], _∷_, _++_}
 use mathlib.Core.Logic.{_≢_}
 use mathlib.Core.Path.{_≡_, refl, ap, _∙_, subst}
@@ -46,16 +46,16 @@ started≢refused : {r : Refusal} {t : ℕ} → Starting.Refused r ≡ Starting.
 started≢refused e = let z : _≡_ {A = ℕ} 0 1 = cc in omega arith
 
 pub accepted : (w : Store) (i start : ℕ) (call : Call) (p : Permit)
-    → startPermit (w .state) (w .nodes) (w .versions) i (call .key) ≡ p
+    → startPermit (w .state) (w .nodes) (w .versions) i (call .key) (call .last) ≡ p
     → startBy p (w .state) i call .outcome ≡ Starting.Started start → Accepted w i call start (startBy p (w .state) i call)
 unfolding startBy startPermit
 accepted w i start call (Denied r) e o = absurd (started≢refused o)
 accepted w i start call Granted e o =
     let f = simp granted-iff at e in
-    let key = simp and-eq-true-iff at (not-false (lawfulKey (call .key)) (f .1 .1 .0)) in
+    let key = simp and-eq-true-iff at (not-false (lawfulKey (call .key) && lawfulKey (call .last)) (f .1 .1 .0)) in
     record {
       below = leb-false (w .state .processes) i (f .1 .0);
-      range = (leb-true 1 (call .key) (key .0), omega (arith, leb-true (call .key) (limits .key) (key .1)));
+      range = (leb-true 1 (call .key) (key .0 .0), omega (arith, leb-true (call .key) (limits .key) (key .0 .1)));
       start-is = cc;
       state-is = refl;
     }

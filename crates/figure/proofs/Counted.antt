@@ -13,7 +13,7 @@ use Rattle.model.specs.Roles.{classOf}
 use Rattle.linearizability.proofs.Opened.{opened-live}
 use Rattle.model.proofs.Tests.{if-by, if-no, and→}
 use Rattle.linearizability.proofs.Invariant.{Ghost, Nodes}
-use Rattle.figure.specs.Types.{Answer, New, None, Class, Inserted, OtherPut, Hit, Miss, Version}
+use Rattle.figure.specs.Types.{Answer, New, None, Class, Inserted, OtherPut, Hit, Miss, Scanned, Version}
 use Rattle.figure.specs.Figure.{HMAX, MAX, head, keyOf, findAll, get, alone, put}
 use Rattle.figure.specs.Steps.{hopsDown, searchSteps, stepsIn, stepsAfter, stepsOf, smaller}
 use Rattle.figure.specs.OneByOne.{putting, getting, figureReply}
@@ -34,6 +34,7 @@ after-few a h = by (classOf a)
     by OtherPut = omega arith
     by Hit = omega arith
     by Miss = omega arith
+    by Scanned = omega arith
 
 get-after : (bound : ℕ) (m : Memory) (k : ℕ) → stepsAfter (get bound m k .answer) 0 ≤ 1
 unfolding get stepsAfter

@@ -10,12 +10,12 @@ use Rattle.model.specs.Layout.{Memory, levels}
 use Rattle.model.specs.Map.{Map, PutResult, putIn, answered, getFrom}
 use Rattle.model.specs.Phases.{Moved, ownVersion, maxNodes, maxVersions}
 use Rattle.model.specs.Calls.{begun, processAfter}
-use Rattle.model.specs.Roles.{isPut, isGet}
+use Rattle.model.specs.Roles.{isPut, isGet, isScan}
 use Rattle.model.proofs.Words.{filled}
 use Rattle.linearizability.proofs.Invariant.{Ghost, Nodes, Book, At, PlacedOf, Fits, fits-at}
 use Rattle.linearizability.proofs.Step.{searches, Ending, Does, Good, Result}
 use Rattle.linearizability.proofs.Transition.{transition-good}
-use Rattle.figure.specs.Types.{Kind, Idle, Put, Get, Walk, Answer, Call, Effect, Process, Version, Move, Refuse, Wait, Go, Note, Commit, End}
+use Rattle.figure.specs.Types.{Kind, Idle, Put, Get, Walk, Answer, Call, Effect, Process, Version, Move, Refuse, Wait, Go, Note, Commit, Show, End}
 use Rattle.figure.proofs.Walking.{Asked}
 use Rattle.figure.proofs.Runs.{Going, Place, at-place, stepped, place-after, Goes, after-call, run-call, Ended}
 
@@ -56,6 +56,7 @@ step-plays m pr tick b b′ Wait nz g d = absurd g
 step-plays m pr tick b b′ (Go c) nz g d = record { since = λ e. (d .0, refl); until = λ e. inl (d .0, e) }
 step-plays m pr tick b b′ (Note c) nz g d = record { since = λ e. (d .0, refl); until = λ e. inl (d .0, e) }
 step-plays m pr tick b b′ (Commit c a) nz g d = record { since = λ e. absurd (e (d .1)); until = λ e. inr (nz, d .2) }
+step-plays m pr tick b b′ (Show c x) nz g d = absurd g
 step-plays m pr tick b b′ (End a v e) nz g d = absurd g
 
 -- a put on tables of the same lengths is the same put
@@ -221,8 +222,10 @@ module _ {m : Memory} {g : Ghost} {b : Map} (N : Nodes m g) (B : Book m b) {kind
 
         as-get : call .kind ≡ Get → Ends → (good .b′ ≡ b) × (getFrom b (call .key) ≡ record { answer = a; version = v })
         as-get is (inl d) = let q = gets (d .1) (d .3) in (good .does .0 ∙ q .0, q .1)
-        as-get is (inr d) = absurd (subst (λ k. T (isPut k)) (kind-is ∙ is) (d .0))
+        as-get is (inr (inl d)) = absurd (subst (λ k. T (isPut k)) (kind-is ∙ is) (d .0))
+        as-get is (inr (inr d)) = absurd (subst (λ k. T (isScan k)) (kind-is ∙ is) (d .0))
 
         as-put : call .kind ≡ Put → Ends → puts m call b ≡ answered (good .b′) a
         as-put is (inl d) = absurd (subst (λ k. T (isGet k)) (kind-is ∙ is) (d .0))
-        as-put is (inr d) = plays-put (d .1) (d .3) ∙ ap (λ (y : Map). answered y a) (sym (good .does .0))
+        as-put is (inr (inl d)) = plays-put (d .1) (d .3) ∙ ap (λ (y : Map). answered y a) (sym (good .does .0))
+        as-put is (inr (inr d)) = absurd (subst (λ k. T (isScan k)) (kind-is ∙ is) (d .0))

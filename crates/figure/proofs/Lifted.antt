@@ -20,7 +20,7 @@ use Rattle.model.proofs.Seen.{Seen, sawStep}
 use Rattle.model.proofs.Tests.{is-true, if-no, eq→eqb}
 use Rattle.linearizability.proofs.Live.{memory, slot, Live, core-lawful}
 use Rattle.linearizability.proofs.Stepped.{step-live}
-use Rattle.figure.specs.Types.{Kind, Idle, Put, Get, Role, Searching, Reading, Writing, Releasing, Answer, Process, Version, Move, Refuse, Wait, Go, Note, Commit, End, Granted, Stepping}
+use Rattle.figure.specs.Types.{Kind, Idle, Put, Get, Scan, Role, Searching, Reading, Writing, Releasing, Following, Answer, Process, Version, Move, Refuse, Wait, Go, Note, Commit, Show, End, Granted, Stepping}
 use Rattle.figure.specs.Alone.{Ran, ran, moves, rested}
 use Rattle.figure.proofs.Runs.{Going, Place, at-place, stepped, place-after, Goes}
 
@@ -40,6 +40,7 @@ idle-refuses holder tick pr m e = if-no (lawfulProcess pr m) _ _ (unlawful e)
     idle-not Reading = rw e tt
     idle-not Writing = rw e tt
     idle-not Releasing = rw e tt
+    idle-not Following = rw e tt
 
     unlawful : pr .call .kind ≡ Idle → T (not (lawfulProcess pr m))
     unlawful e = and-no (leb (pr .cursor .level) 5 && leb (pr .cursor .pred) (m .counts .nodes))
@@ -49,6 +50,7 @@ no-idle : (kind : Kind) → kind ≢ Idle → isIdle kind ≡ false
 no-idle Idle ne = absurd (ne refl)
 no-idle Put ne = refl
 no-idle Get ne = refl
+no-idle Scan ne = refl
 
 pub not-le : (a b : ℕ) → b < a → leb a b ≡ false
 not-le a b lt = go (leb a b) refl
@@ -111,6 +113,7 @@ module _ {K W : ℕ} {w : Store} {h : Seen} (l : Live K W w h) (i : ℕ) (below 
   goes-by (Go c) m g = refl
   goes-by (Note c) m g = refl
   goes-by (Commit c a) m g = refl
+  goes-by (Show c x) m g = absurd g
   goes-by (End a v e) m g = absurd g
 
   going-moves : (v : Move) → Going v → v ≢ Refuse

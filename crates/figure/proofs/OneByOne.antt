@@ -15,7 +15,7 @@ use Rattle.model.specs.Requests as Requests
 use Rattle.model.specs.History.{Action, start, step, act, Run, perform, performAll, begin}
 use Rattle.model.proofs.Seen.{emptySeen}
 use Rattle.model.specs.ByValue.{opensBy, freshStore, byValue}
-use Rattle.model.specs.Requests.{Operation, keyOf}
+use Rattle.model.specs.Requests.{Operation, firstOf, lastOf}
 use Rattle.model.specs.Linearizability.{All}
 use Rattle.model.specs.Roles.{isIdle}
 use Rattle.model.proofs.Tests.{by-eq}
@@ -62,19 +62,21 @@ reached-ran i (suc n) r = reached-ran i n (reached-on r (step i))
 module _ (w : Store) (lives : Lives w) (i k : ℕ) (below : i < w .state .processes) (lawful : lawfulKey k ≡ true)
     (idle : slot w i .call .kind ≡ Idle)
     (time : w .state .events < w .state .limit) where
-  may-start : startPermit (w .state) (w .nodes) (w .versions) i k ≡ Granted
+  may-start : startPermit (w .state) (w .nodes) (w .versions) i k k ≡ Granted
   unfolding startPermit
   may-start = rw (
     core-lawful (lives .live .core),
     not-le (w .state .processes) i below,
     lawful,
+    not-le (suc k) k (omega arith),
     idle,
     not-le (w .state .limit) (w .state .events) time,
   )
 
-  starts : (op : Operation) → keyOf op ≡ k → startOf (w .state) (w .nodes) (w .versions) i op .outcome ≡ Starting.Started (w .state .events + 1)
+  starts : (op : Operation) → firstOf op ≡ k → lastOf op ≡ k
+      → startOf (w .state) (w .nodes) (w .versions) i op .outcome ≡ Starting.Started (w .state .events + 1)
   unfolding startOf startBy
-  starts op e = rw (e, may-start)
+  starts op e f = rw (e, f, may-start)
 
 -- ---- what one call tells
 
@@ -107,7 +109,7 @@ module _ (w : Store) (reached : Reached w) (rest : Resting w) (bound : ℕ) (eno
       let r = get bound m k in
       let n = stepsOf bound m k (r .answer) 0 in
       let q = get-alone w reached bound enough i k (w .state .events + 1)
-      (starts w lives i k below lawful (resting-idle lives rest i) (omega arith) (Requests.get k) refl) (omega arith) in
+      (starts w lives i k below lawful (resting-idle lives rest i) (omega arith) (Requests.get k) refl refl) (omega arith) in
       record {
         reached = reached-ran i n (reached-on reached (start i (Requests.get k)));
         tells = ap (λ (x : Ran). told (x .outcomes)) q ∙ told-end (w .state .events + 1 + 1) (n - 1) _;
@@ -123,7 +125,7 @@ module _ (w : Store) (reached : Reached w) (rest : Resting w) (bound : ℕ) (eno
       let n = stepsOf bound m k (o .answer) (topOf draw) in
       let free = unlocked-frees w reached (rest-unlocks w reached rest) bound enough k (topOf draw) (o .answer) lawful (top-at-most draw) in
       let q = put-alone w reached bound enough i k v t draw (w .state .events + 1) free
-      (starts w lives i k below lawful (resting-idle lives rest i) (omega arith) (Requests.put k v t draw) refl) (omega arith) in
+      (starts w lives i k below lawful (resting-idle lives rest i) (omega arith) (Requests.put k v t draw) refl refl) (omega arith) in
       record {
         reached = reached-ran i n (reached-on reached (start i (Requests.put k v t draw)));
         tells = ap (λ (x : Ran). told (x .outcomes)) q ∙ told-end (w .state .events + 1 + 1) (n - 1) _;

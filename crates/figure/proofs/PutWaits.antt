@@ -91,7 +91,7 @@ put-waits-alone w reached bound enough i k v t draw l begun-at le free taken new
     let m = memoryIn w in
     let now = w .state .events + 1 in
     let call = put-call k v t draw now in
-    let a = accepted w i begun-at call (startPermit (w .state) (w .nodes) (w .versions) i k) refl o in
+    let a = accepted w i begun-at call (startPermit (w .state) (w .nodes) (w .versions) i k k) refl o in
     let lives = reached-lives reached in
     let c = lives .live .core in
     let l₁ = subst (λ (s : State). Lives (withState w s)) (a .state-is) (acted-lives lives (History.start i (Requests.put k v t draw))) in

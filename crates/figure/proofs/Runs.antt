@@ -6,15 +6,16 @@ use native.Mathlib.Omega.{arith}
 use Rattle.model.specs.Layout.{Memory}
 use Rattle.model.specs.Phases.{Moved, moved, transitionOf}
 use Rattle.model.specs.Calls.{processAfter}
-use Rattle.figure.specs.Types.{Answer, Process, Version, Move, Refuse, Wait, Go, Note, Commit, End}
+use Rattle.figure.specs.Types.{Answer, Process, Version, Move, Refuse, Wait, Go, Note, Commit, Show, End}
 
--- a move after which the call goes on
+-- a move after which a put or a get goes on
 abbrev pub Going : Move → Type 0
 Going Refuse = ⊥
 Going Wait = ⊥
 Going (Go c) = Unit {0}
 Going (Note c) = Unit {0}
 Going (Commit c a) = Unit {0}
+Going (Show c x) = ⊥
 Going (End a v e) = ⊥
 
 -- a call's process, and memory
@@ -92,6 +93,7 @@ after-call tick pr Wait g = absurd g
 after-call tick pr (Go c) g = refl
 after-call tick pr (Note c) g = refl
 after-call tick pr (Commit c a) g = refl
+after-call tick pr (Show c x) g = absurd g
 after-call tick pr (End a v e) g = absurd g
 
 goes-call : (i tick n : ℕ) (x y : Place) → Goes i tick n x y → y .process .call ≡ x .process .call

@@ -10,7 +10,7 @@ use Rattle.model.specs.Calls.{Store, standing, topOf}
 use Rattle.model.proofs.Tests.{by-le}
 use Rattle.model.proofs.Laws.{top-at-most}
 use Rattle.linearizability.proofs.Live.{slot, status-is}
-use Rattle.figure.specs.Types.{Kind, Idle, Put, Get, Process, Status}
+use Rattle.figure.specs.Types.{Kind, Idle, Put, Get, Scan, Process, Status}
 use Rattle.figure.specs.Figure.{HMAX, MAX, head, alone, put}
 use Rattle.figure.specs.Alone.{memoryIn, Resting, RestUnlocks, UnlockedFrees, PutUnlocks}
 use Rattle.figure.proofs.Search.{at-head, all-finds}
@@ -24,6 +24,7 @@ unfolding standing
 shown-idle Idle pr e = refl
 shown-idle Put pr e = absurd (let z : _≡_ {A = ℕ} 0 1 = cc in omega arith)
 shown-idle Get pr e = absurd (let z : _≡_ {A = ℕ} 0 1 = cc in omega arith)
+shown-idle Scan pr e = absurd (let z : _≡_ {A = ℕ} 0 1 = cc in omega arith)
 
 -- no process has a call
 pub resting-idle : {w : Store} → Lives w → Resting w → (j : ℕ) → slot w j .call .kind ≡ Idle

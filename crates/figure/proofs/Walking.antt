@@ -83,10 +83,10 @@ pub get≢idle : Get ≢ Idle
 get≢idle e = let z : _≡_ {A = ℕ} 0 1 = cc in omega arith
 
 abbrev pub put-call : (k v t draw start : ℕ) → Call
-put-call k v t draw start = record { kind = Put; key = k; value = v; timestamp = t; top = topOf draw; start = start }
+put-call k v t draw start = record { kind = Put; key = k; last = k; value = v; timestamp = t; top = topOf draw; start = start }
 
 abbrev pub get-call : (k start : ℕ) → Call
-get-call k start = record { kind = Get; key = k; value = 0; timestamp = 0; top = 0; start = start }
+get-call k start = record { kind = Get; key = k; last = k; value = 0; timestamp = 0; top = 0; start = start }
 
 pub asked-put : (k v t draw start : ℕ) → (1 ≤ k) × (k < MAX) → Asked Put (put-call k v t draw start)
 asked-put k v t draw start range = record { kind-is = refl; key-low = range .0; key-high = range .1; top-high = top-at-most draw }

@@ -11,7 +11,7 @@ use Rattle.model.specs.State.{lawfulNodes, lawfulVersions, lawfulKey}
 use Rattle.model.specs.Phases.{maxNodes}
 use Rattle.model.specs.Calls.{openOf, startOf, topOf, Store}
 use Rattle.model.specs.Requests as Requests
-use Rattle.model.specs.Requests.{Operation, keyOf}
+use Rattle.model.specs.Requests.{Operation, firstOf}
 use Rattle.model.specs.ByValue.{withState, freshStore}
 use Rattle.model.specs.Linearizability.{All}
 use Rattle.figure.specs.Types.{Opening, Stepping}
@@ -82,6 +82,7 @@ told [] = []
 told (Stepping.Refused r ∷ os) = told os
 told (Stepping.Moved t ∷ os) = told os
 told (Stepping.Waited t ∷ os) = told os
+told (Stepping.Shown t x ∷ os) = told os
 told (Stepping.Finished f ∷ os) =
     record { answer = f .answer; version = record { value = f .value; timestamp = f .timestamp } } ∷ told os
 
@@ -96,7 +97,7 @@ storeLeft bound w (r ∷ rs) = storeLeft bound (storeDoes bound w r .store) rs
 -- ---- the claims
 
 abbrev pub Lawful : Request → Type 0
-Lawful r = lawfulKey (keyOf (operationOf r)) ≡ true
+Lawful r = lawfulKey (firstOf (operationOf r)) ≡ true
 
 -- From a store of demand 3 without a running call: what is answered, and the tables that are left, are the figure's.
 abbrev pub StoreFolds : Type 0

@@ -5,7 +5,7 @@ use Rattle.model.specs.Choice.{if_then_else_}
 use Rattle.model.specs.Layout.{Memory, key, next}
 use Rattle.model.proofs.Counting.{count}
 use Rattle.model.specs.Roles.{classOf}
-use Rattle.figure.specs.Types.{Answer, Class, Inserted, OtherPut, Hit, Miss}
+use Rattle.figure.specs.Types.{Answer, Class, Inserted, OtherPut, Hit, Miss, Scanned}
 use Rattle.figure.specs.Figure.{HMAX, head, keyOf, find}
 
 -- the hops of `find`: how often it calls itself
@@ -33,6 +33,7 @@ stepsIn Miss h = 0
 stepsIn Hit h = 1  -- read
 stepsIn OtherPut h = 5  -- seek, lock, check, update or make, release
 stepsIn Inserted h = 5 + 5 * h  -- and at each level above the bottom seek, lock, check, link, release
+stepsIn Scanned h = 0  -- no put or get has it
 
 unfoldable pub stepsAfter : Answer → (h : ℕ) → ℕ
 stepsAfter a h = stepsIn (classOf a) h

@@ -19,6 +19,8 @@ abbrev pub stepLine : (process : ℕ) → Stepping → Line
 stepLine process (Stepping.Refused r) = Line.Refused r
 stepLine process (Stepping.Moved tick) = Line.Stepped process tick
 stepLine process (Stepping.Waited tick) = Line.Waited process tick
+-- no command starts a scan, so no step of a sheet shows: never printed
+stepLine process (Stepping.Shown tick x) = Line.Stepped process tick
 stepLine process (Stepping.Finished f) = Line.Done process f
 
 abbrev pub lookLine : (key back : ℕ) → Looking → Line

@@ -39,6 +39,7 @@ pub fn of_step(process: u32, outcome: Stepping) -> Line
         Stepping::Refused(refusal) => Line::Refused(refusal),
         Stepping::Moved(tick) => Line::Stepped { process, tick },
         Stepping::Waited(tick) => Line::Waited { process, tick },
+        Stepping::Shown(tick, _) => Line::Stepped { process, tick },
         Stepping::Finished(finish) => Line::Done { process, finish },
     }
 }

@@ -15,7 +15,7 @@ others-printed : text (
 unfolding text numberOf decimal digits
 others-printed = refl
 
--- a finished call with each answer
+-- a finished call with each answer of a put and a get
 done : Kind → Answer → Line
 done kind answer = Done 7 (record { kind = kind; answer = answer; value = 1; timestamp = 20; start = 300; effect = 4_000; finish = 50_000 })
 

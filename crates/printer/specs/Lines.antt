@@ -6,14 +6,15 @@ use lib.ListN.{length}
 use lib.Seq.{sets}
 use Rattle.model.specs.Choice.{if_then_else_}
 use Rattle.model.specs.Numbers.{numberOf}
-use Rattle.printer.specs.Types.{Kind, Answer, TooOld, VersionsFull, Added, KeysFull, New, Found, None, Line, Opened, Started, Stepped, Waited, Done, Looked, Sound, Fault, Refused}
+use Rattle.printer.specs.Types.{Kind, Answer, TooOld, VersionsFull, Added, KeysFull, New, Found, None, Swept, Line, Opened, Started, Stepped, Waited, Done, Looked, Sound, Fault, Refused}
 use Rattle.printer.specs.Text.{ascii, decimal, line}
 
--- no finished call is idle
+-- no finished call is idle, and no command starts a scan: these words are never printed, nor is that of its answer
 abbrev pub kindWord : Kind → List ℕ
 kindWord Kind.Idle = ascii "idle"
 kindWord Kind.Put = ascii "put"
 kindWord Kind.Get = ascii "get"
+kindWord Kind.Scan = ascii "sweep"
 
 -- "answers of two words take a hyphen, `too-old`"
 abbrev pub answerWord : Answer → List ℕ
@@ -24,6 +25,7 @@ answerWord KeysFull = ascii "trays-full"
 answerWord New = ascii "new"
 answerWord Found = ascii "found"
 answerWord None = ascii "none"
+answerWord Swept = ascii "swept"
 
 -- "the open with its operands, `start` station tick, `step` station tick `on` or `wait`, `done` as below, `look` tray
 -- back value stamp, `sound` or `fault` level node, `refused` number"; "`done` has station, kind, answer, value, stamp,

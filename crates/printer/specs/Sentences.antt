@@ -53,7 +53,7 @@ shown numbers i = decimal (getD numbers i 0)
 pub record Opens (kind : Kind) (format : List ℕ) : Type 0 where
   pub reads : (key : ℕ) (numbers : List ℕ) → filled key numbers format
       ≡ ascii "done" ++ spaced (shown numbers 0 ++ spaced (kindWord kind))
-  pub short : most format ≤ 20
+  pub short : most format ≤ 21
 
 pub record Closes (answer : Answer) (format : List ℕ) : Type 0 where
   pub reads : (key : ℕ) (numbers : List ℕ) → filled key numbers format

@@ -23,6 +23,9 @@ pub const DONE_PUT: Format = *b"done 1 put...............";
 
 pub const DONE_GET: Format = *b"done 1 get...............";
 
+// No command of a sheet starts a scan: this kind, and its answer at the end, are never printed.
+pub const DONE_SCAN: Format = *b"done 1 sweep.............";
+
 pub const TOO_OLD: Format = *b" too-old 2 3 4 5 6\n......";
 
 pub const VERSIONS_FULL: Format = *b" readings-full 2 3 4 5 6\n";
@@ -36,5 +39,7 @@ pub const NEW: Format = *b" new 2 3 4 5 6\n..........";
 pub const FOUND: Format = *b" found 2 3 4 5 6\n........";
 
 pub const NONE: Format = *b" none 2 3 4 5 6\n.........";
+
+pub const SWEPT: Format = *b" swept 2 3 4 5 6\n........";
 
 pub const NOTHING: Format = *b".........................";

@@ -25,6 +25,7 @@ fn kind_format(kind: Kind) -> Format
         Kind::Idle => formats::DONE_IDLE,
         Kind::Put => formats::DONE_PUT,
         Kind::Get => formats::DONE_GET,
+        Kind::Scan => formats::DONE_SCAN,
     }
 }
 
@@ -40,6 +41,7 @@ fn answer_format(answer: Answer) -> Format
         Answer::New => formats::NEW,
         Answer::Found => formats::FOUND,
         Answer::None => formats::NONE,
+        Answer::Swept => formats::SWEPT,
     }
 }
 

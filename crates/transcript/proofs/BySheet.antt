@@ -8,7 +8,7 @@ use native.Mathlib.Omega.{arith}
 use lib.ListN.{length, take, drop, replicate, length-replicate}
 use lib.Seq.{length-take-le, length-front, take-at}
 use Rattle.model.specs.Layout.{nodeWords, versionWords, freshNodes}
-use Rattle.model.specs.Requests.{Fitting, Operation, put, get}
+use Rattle.model.specs.Requests.{Fitting, Operation, put, get, scan}
 use Rattle.model.specs.Calls.{openDue, openBy, openOf, startBy, startOf, Store, Stepped, stepOf}
 use Rattle.model.specs.System.{Opens, viewOf}
 use Rattle.model.specs.ByValue.{withState, freshStore, Given, opensBy, byValue}
@@ -16,15 +16,16 @@ use Rattle.model.specs.Linearizability.{Linearizable}
 use Rattle.model.proofs.Laws.{granted-fits}
 use Rattle.linearizability.proofs.Simulated.{Same, SameOpening, Simulates, simulated}
 use Rattle.linearizability.proofs.Linearized as by-value
-use Rattle.buffers.specs.Session.{Session, session, Done, lent, back, tableWords, buffers, openedOn, started, startedOn, steppedOn, openOn, callOn}
+use Rattle.buffers.specs.Session.{Session, session, Done, lent, back, tableWords, buffers, openedOn, started, startOn, startedOn, steppedOn, openOn, callOn}
 use Rattle.executor.specs.Perform.{performOf}
 use Rattle.interpreter.specs.Sheet.{firstSession}
 use Rattle.buffers.proofs.Laws.{asked-permit}
-use Rattle.transcript.specs.Types.{Command, Open, Step, Look, Inspect, Call, Lengths, State, Permit, Granted, Denied, StartResult, Inspecting}
-use Rattle.transcript.specs.Meanings.{startMeant, stepMeant, lookMeant, inspectMeant}
-use Rattle.transcript.specs.BySheet.{BufferLengths, Asked, fittingFor, opensByLine, startCommand, answered, bySheet}
-use Rattle.transcript.proofs.Lengths.{Keeps, step-keeps, length-fresh}
-use Rattle.transcript.proofs.Meanings.{start-meant, step-meant, look-meant, inspect-meant}
+use Rattle.transcript.specs.Types.{Command, Open, Put, Get, Step, Look, Inspect, Call, Lengths, State, Permit, Granted, Denied, StartResult, Inspecting}
+use Rattle.transcript.specs.Meanings.{startMeant, lookMeant, inspectMeant}
+use Rattle.transcript.specs.BySheet.{BufferLengths, Asked, fittingFor, opensByLine, answered, bySheet}
+use Rattle.transcript.proofs.Steps.{Keeps, step-keeps}
+use Rattle.transcript.proofs.Lengths.{length-fresh}
+use Rattle.transcript.proofs.Meanings.{start-meant, look-meant, inspect-meant}
 
 -- the store is open, and its tables stand whole in the buffers
 pub record Stands (w : Session) : Type 0 where
@@ -36,7 +37,7 @@ abbrev Holds : Session → Store → Type 0
 Holds w x = (lent w ≡ x) × Stands w
 
 -- an open store performs every command
-performs : (w : Session) → w .state .opened ≡ true → (c : Command) → performOf w c ≡ callOn w c
+pub performs : (w : Session) → w .state .opened ≡ true → (c : Command) → performOf w c ≡ callOn w c
 unfolding performOf
 performs w e c = rw e
 
@@ -78,33 +79,35 @@ module _ (w : Session) (s : Stands w) (i : ℕ) where
     ),
   )
 
-  start-call : (op : Operation) → Same Holds (answered startMeant (callOn w (startCommand i op))) (byValue .start (lent w) i op)
-  unfolding callOn startOf
-  start-call (put k v t draw) = start-called _ (state-by _ (w .state) i _)
-  start-call (get k) = start-called _ (state-by _ (w .state) i _)
+  start-on : (op : Operation) → Same Holds (answered startMeant (startedOn w (startOn (w .state) (w .nodes) (w .versions) i op)))
+      (byValue .start (lent w) i op)
+  unfolding startOf
+  start-on op = start-called _ (state-by _ (w .state) i _)
+
+  start-by : (c : Command) (op : Operation) → callOn w c ≡ startedOn w (startOn (w .state) (w .nodes) (w .versions) i op)
+      → Same Holds (answered startMeant (performOf w c)) (byValue .start (lent w) i op)
+  start-by c op e =
+      subst (λ (d : Done). Same Holds (answered startMeant d) (byValue .start (lent w) i op))
+      (sym (performs w (s .open-now) c ∙ e)) (start-on op)
 
   start-same : (op : Operation) → Same Holds (bySheet .start w i op) (byValue .start (lent w) i op)
-  start-same op =
-      subst (λ (d : Done). Same Holds (answered startMeant d) (byValue .start (lent w) i op))
-      (sym (performs w (s .open-now) (startCommand i op))) (start-call op)
+  start-same (put k v t draw) = start-by (Put i k v t draw) (put k v t draw) (unfold callOn in refl)
+  start-same (get k) = start-by (Get i k) (get k) (unfold callOn in refl)
+  start-same (scan first last) = start-on (scan first last)
 
   -- ---- steps
 
-  step-called : (r : Stepped) → Keeps (lent w) (r .store)
-      → Same Holds (answered stepMeant (steppedOn w i r)) (record { outcome = r .outcome; store = r .store })
+  step-called : (r : Stepped) → Keeps (lent w) (r .store) → Holds (steppedOn w i r .session) (r .store)
   step-called r k = (
-    step-meant i (r .outcome),
-    (
-      ap (λ (t : List ℕ). record { state = x .state; nodes = t; versions = take m′ versions; tally = x .tally })
-          (table-back n n′ (x .nodes) (w .nodes) same-n (k .nodes) (s .nodes))
-          ∙ ap (λ (t : List ℕ). record { state = x .state; nodes = x .nodes; versions = t; tally = x .tally })
-          (table-back m m′ (x .versions) (w .versions) same-m (k .versions) (s .versions)),
-      record {
-        open-now = k .open-too ∙ s .open-now;
-        nodes = within-back n n′ (x .nodes) (w .nodes) same-n (k .nodes) (s .nodes);
-        versions = within-back m m′ (x .versions) (w .versions) same-m (k .versions) (s .versions);
-      },
-    ),
+    ap (λ (t : List ℕ). record { state = x .state; nodes = t; versions = take m′ versions; tally = x .tally })
+        (table-back n n′ (x .nodes) (w .nodes) same-n (k .nodes) (s .nodes))
+        ∙ ap (λ (t : List ℕ). record { state = x .state; nodes = x .nodes; versions = t; tally = x .tally })
+        (table-back m m′ (x .versions) (w .versions) same-m (k .versions) (s .versions)),
+    record {
+      open-now = k .open-too ∙ s .open-now;
+      nodes = within-back n n′ (x .nodes) (w .nodes) same-n (k .nodes) (s .nodes);
+      versions = within-back m m′ (x .versions) (w .versions) same-m (k .versions) (s .versions);
+    },
   )
     where
       x : Store
@@ -131,14 +134,15 @@ module _ (w : Session) (s : Stands w) (i : ℕ) where
       same-m : m′ ≡ m
       same-m = ap (λ (l : Lengths). l .versions) (k .lengths)
 
-  step-call : Same Holds (answered stepMeant (callOn w (Step i))) (byValue .step (lent w) i)
+  step-call : Holds (callOn w (Step i) .session) (stepOf (lent w) i .store)
   unfolding callOn
   step-call = step-called (stepOf (lent w) i) (step-keeps (lent w) i)
 
   step-same : Same Holds (bySheet .step w i) (byValue .step (lent w) i)
-  step-same =
-      subst (λ (d : Done). Same Holds (answered stepMeant d) (byValue .step (lent w) i)) (sym (performs w (s .open-now) (Step i)))
-      step-call
+  step-same = (
+    refl,
+    subst (λ (d : Done). Holds (d .session) (stepOf (lent w) i .store)) (sym (performs w (s .open-now) (Step i))) step-call,
+  )
 
 -- ---- looks and inspections
 

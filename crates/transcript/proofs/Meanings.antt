@@ -2,9 +2,10 @@
 use Prim.Native.Nat.{ℕ}
 use mathlib.Core.Bool.{_||_}
 use mathlib.Core.Path.{_≡_, refl}
+use Rattle.model.specs.Calls.{stepOf}
 use Rattle.model.proofs.Tests.{if-by}
 use Rattle.lines.specs.Outcomes.{openLine, startLine, stepLine, lookLine, inspectLine}
-use Rattle.buffers.specs.Session.{Session, Done, openOn, callOn}
+use Rattle.buffers.specs.Session.{Session, Done, lent, openOn, callOn}
 use Rattle.executor.specs.Perform.{opens, performOf}
 use Rattle.transcript.specs.Types.{Command, Open, Put, Get, Step, Look, Inspect, Line, NotOpen}
 use Rattle.transcript.specs.Types.{Opening, Starting, Stepping, Looking, Inspecting}
@@ -19,11 +20,27 @@ pub start-meant : (i : ℕ) (o : Starting) → startMeant (startLine i o) ≡ o
 start-meant i (Starting.Refused r) = refl
 start-meant i (Starting.Started t) = refl
 
-pub step-meant : (i : ℕ) (o : Stepping) → stepMeant (stepLine i o) ≡ o
-step-meant i (Stepping.Refused r) = refl
-step-meant i (Stepping.Moved t) = refl
-step-meant i (Stepping.Waited t) = refl
-step-meant i (Stepping.Finished f) = refl
+-- what a step shows, its line does not tell
+abbrev pub Unshown : Stepping → Type 0
+Unshown (Stepping.Refused r) = Unit {0}
+Unshown (Stepping.Moved t) = Unit {0}
+Unshown (Stepping.Waited t) = Unit {0}
+Unshown (Stepping.Shown t x) = ⊥
+Unshown (Stepping.Finished f) = Unit {0}
+
+pub step-meant : (i : ℕ) (o : Stepping) → Unshown o → stepMeant (stepLine i o) ≡ o
+step-meant i (Stepping.Refused r) u = refl
+step-meant i (Stepping.Moved t) u = refl
+step-meant i (Stepping.Waited t) u = refl
+step-meant i (Stepping.Shown t x) u = absurd u
+step-meant i (Stepping.Finished f) u = refl
+
+step-again : (i : ℕ) (o : Stepping) → stepLine i (stepMeant (stepLine i o)) ≡ stepLine i o
+step-again i (Stepping.Refused r) = refl
+step-again i (Stepping.Moved t) = refl
+step-again i (Stepping.Waited t) = refl
+step-again i (Stepping.Shown t x) = refl
+step-again i (Stepping.Finished f) = refl
 
 pub look-meant : (k back : ℕ) (o : Looking) → lookMeant (lookLine k back o) ≡ o
 look-meant k back (Looking.Refused r) = refl
@@ -42,7 +59,7 @@ unfolding callOn openOn
 call-again w (Open k v p limit) = simp open-meant
 call-again w (Put i k v t draw) = simp start-meant
 call-again w (Get i k) = simp start-meant
-call-again w (Step i) = simp step-meant
+call-again w (Step i) = step-again i (stepOf (lent w) i .outcome)
 call-again w (Look k back) = simp look-meant
 call-again w Inspect = simp inspect-meant
 

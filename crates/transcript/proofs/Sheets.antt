@@ -9,13 +9,13 @@ use lib.ListN.{length, replicate}
 use Rattle.model.specs.Calls.{openBy, openOf}
 use Rattle.model.specs.System.{opened, viewOf}
 use Rattle.model.specs.ByValue.{opensBy}
-use Rattle.model.specs.History.{Action, Observation, History, emptyHistory, Run, perform, performAll, begin}
+use Rattle.model.specs.History.{Action, Observation, stepped, History, emptyHistory, Run, perform, performAll, begin}
 use Rattle.model.specs.Linearizability.{Claim, EffectsStay}
 use Rattle.model.proofs.Tests.{if-by}
 use Rattle.buffers.specs.Session.{Session, Done, openedOn, openOn, callOn}
 use Rattle.executor.specs.Perform.{opens, performOf, AllDone, performedAll}
 use Rattle.interpreter.specs.Sheet.{sheetOf}
-use Rattle.transcript.specs.Types.{Command, Open, Put, Get, Step, Look, Inspect, Line, Refusal, NotOpen, Permit, Granted, Denied}
+use Rattle.transcript.specs.Types.{Command, Open, Put, Get, Step, Look, Inspect, Line, Refusal, NotOpen, Permit, Granted, Denied, Stepping}
 use Rattle.transcript.specs.Meanings.{openMeant}
 use Rattle.transcript.specs.BySheet.{BufferLengths, Asked, fittingFor, bySheet}
 use Rattle.transcript.specs.Sheets.{Reached, NoOpen, actionIn, actionsIn, entryIn, entriesIn, runOf}
@@ -23,6 +23,7 @@ use Rattle.transcript.specs.Sheets.{BetweenOpens, SheetLinearizable}
 use Rattle.transcript.proofs.Lengths.{lengths-stay}
 use Rattle.transcript.proofs.Meanings.{line-again}
 use Rattle.transcript.proofs.BySheet.{first-lengths, performs-open, linearizable}
+use Rattle.transcript.proofs.Plain.{Plain, stays-plain, step-told, opens-plain}
 
 -- ---- a list's run
 
@@ -47,30 +48,31 @@ abbrev seenOf : Session → Command → List Observation
 seenOf w c = entryIn c (performOf w c .line)
 
 -- a command is one action, or none
-acts : (w : Session) (h : History) (c : Command) → opens c ≡ false → (rest : List Action)
+acts : (w : Session) (h : History) (c : Command) → opens c ≡ false → Plain (w .state) → (rest : List Action)
     → performAll (run w h) (actionIn c ++ rest) ≡ performAll (run (performOf w c .session) (with-entries h (seenOf w c))) rest
 unfolding performAll perform
-acts w h (Open k v p limit) no-open rest = cc
-acts w h (Put i k v t draw) no-open rest = refl
-acts w h (Get i k) no-open rest = refl
-acts w h (Step i) no-open rest = refl
-acts w h (Look k back) no-open rest =
+acts w h (Open k v p limit) no-open q rest = cc
+acts w h (Put i k v t draw) no-open q rest = refl
+acts w h (Get i k) no-open q rest = refl
+acts w h (Step i) no-open q rest =
+    ap (λ (o : Stepping). performAll (run (performOf w (Step i) .session) (with-entries h (stepped i o ∷ []))) rest) (sym (step-told w q i))
+acts w h (Look k back) no-open q rest =
     ap (λ (x : Session). performAll (run x (with-entries h (seenOf w (Look k back)))) rest) (sym (look-leaves w k back))
-acts w h Inspect no-open rest = ap (λ (x : Session). performAll (run x h) rest) (sym (inspect-leaves w))
+acts w h Inspect no-open q rest = ap (λ (x : Session). performAll (run x h) rest) (sym (inspect-leaves w))
 
 -- what commands add to what was seen before them
 abbrev seenIn : Session → History → List Command → Run bySheet
 seenIn w h commands = let r = performedAll w commands in run (r .session) (with-entries h (entriesIn commands (r .lines)))
 
-plays : (w : Session) (h : History) (commands : List Command) → NoOpen commands
+plays : (w : Session) (h : History) (commands : List Command) → NoOpen commands → Plain (w .state)
     → performAll (run w h) (actionsIn commands) ≡ seenIn w h commands
 unfolding performAll performedAll actionsIn entriesIn
-plays w h [] no-open = refl
-plays w h (c ∷ rest) no-open =
+plays w h [] no-open q = refl
+plays w h (c ∷ rest) no-open q =
     let d = performOf w c in
     let r = performedAll (d .session) rest in
-    acts w h c (no-open .0) (actionsIn rest)
-    ∙ plays (d .session) (with-entries h (seenOf w c)) rest (no-open .1)
+    acts w h c (no-open .0) q (actionsIn rest)
+    ∙ plays (d .session) (with-entries h (seenOf w c)) rest (no-open .1) (stays-plain w c (no-open .0) q)
     ∙ ap (λ (es : List Observation). run (r .session) (record { processes = h .processes; limit = h .limit; entries = es }))
     (sym (append-assoc (entriesIn rest (r .lines)) (seenOf w c) (h .entries)))
 
@@ -108,7 +110,7 @@ module _ (w : Session) (reached : Reached w) (k v p limit : ℕ) where
     runs : (commands : List Command) → NoOpen commands
         → performAll (begin bySheet asked now) (actionsIn commands) ≡ seen commands
     runs commands no-open =
-        plays now (emptyHistory (fittingFor k v p limit)) commands no-open
+        plays now (emptyHistory (fittingFor k v p limit)) commands no-open (opens-plain w k v p limit accepted)
         ∙ ap (λ (es : List Observation). run (seen commands .store) (record { processes = p; limit = limit; entries = es }))
         (append-nil (seen commands .history .entries))
 

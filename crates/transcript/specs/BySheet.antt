@@ -1,17 +1,19 @@
--- The store that the commands of a sheet play, as a system: a call is a command, and its outcome is what its line tells. No
--- command asks for standing, tally and counts: these are read from the session.
+-- The store that the commands of a sheet play, as a system: a call is a command, and its outcome is what its line tells. But no command
+-- starts a scan, and no line has words for what a scan shows: such a start is the store's own call on the session, and a step answers what
+-- the store's step answers, which the lines of a sheet tell too (Sheets `such-list`). No command asks for standing, tally and
+-- counts: these are read from the session.
 use Prim.Native.Nat.{ℕ}
 use mathlib.Core.Path.{_≡_}
 use lib.ListN.{length}
 use Rattle.model.specs.Layout.{nodeWords, versionWords}
-use Rattle.model.specs.Requests.{Fitting, Operation, put, get}
-use Rattle.model.specs.Calls.{statusOf}
+use Rattle.model.specs.Requests.{Fitting, Operation, put, get, scan}
+use Rattle.model.specs.Calls.{stepOf, statusOf}
 use Rattle.model.specs.System.{Opens, After, System}
 use Rattle.model.specs.ByValue.{opensBy}
-use Rattle.buffers.specs.Session.{Session, Done, tableWords, buffers}
+use Rattle.buffers.specs.Session.{Session, Done, lent, tableWords, buffers, startOn, startedOn}
 use Rattle.executor.specs.Perform.{performOf}
 use Rattle.transcript.specs.Types.{Command, Open, Put, Get, Step, Look, Inspect, Line}
-use Rattle.transcript.specs.Meanings.{openMeant, startMeant, stepMeant, lookMeant, inspectMeant}
+use Rattle.transcript.specs.Meanings.{openMeant, startMeant, lookMeant, inspectMeant}
 
 -- both buffers and the tally are as long as the program lends them, whatever they hold
 pub record BufferLengths (w : Session) : Type 0 where
@@ -40,9 +42,10 @@ fittingFor k v p limit = record {
 abbrev pub opensByLine : Done → Opens Session
 opensByLine d = opensBy (openMeant (d .line)) (d .session)
 
-abbrev pub startCommand : (process : ℕ) → Operation → Command
-startCommand i (put k v t draw) = Put i k v t draw
-startCommand i (get k) = Get i k
+abbrev pub startedBy : Session → (process : ℕ) → Operation → Done
+startedBy w i (put k v t draw) = performOf w (Put i k v t draw)
+startedBy w i (get k) = performOf w (Get i k)
+startedBy w i (scan first last) = startedOn w (startOn (w .state) (w .nodes) (w .versions) i (scan first last))
 
 -- what is read from a command's line, and the session that it leaves
 abbrev pub answered : {O : Type 0} → (meant : Line → O) → Done → After O Session
@@ -54,8 +57,8 @@ bySheet = record {
   Setup = Asked;
   fitting = λ s. fittingFor (s .keys) (s .versions) (s .processes) (s .limit);
   fresh = λ s. opensByLine (performOf (s .before) (Open (s .keys) (s .versions) (s .processes) (s .limit)));
-  start = λ w i op. answered startMeant (performOf w (startCommand i op));
-  step = λ w i. answered stepMeant (performOf w (Step i));
+  start = λ w i op. answered startMeant (startedBy w i op);
+  step = λ w i. record { outcome = stepOf (lent w) i .outcome; store = performOf w (Step i) .session };
   look = λ w k back. lookMeant (performOf w (Look k back) .line);
   status = λ w i. statusOf (w .state) i;
   inspect = λ w. inspectMeant (performOf w Inspect .line);

@@ -1,5 +1,5 @@
 -- What the line of a command tells: the outcome that prints it. A line that such a command does not print is taken for
--- damage, refusal 10, which demand 3 excludes.
+-- damage, refusal 10, which demand 3 excludes. No step of a sheet shows anything, so `on` tells that it moved.
 use Rattle.transcript.specs.Types.{Line, Corrupt, Opening, Starting, Stepping, Looking, Inspecting}
 
 abbrev pub openMeant : Line → Opening

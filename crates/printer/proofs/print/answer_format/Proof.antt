@@ -27,6 +27,9 @@ enum-told-6 c = search needs
 enum-told-7 : tie.Need-enum-told-7
 enum-told-7 c = search needs
 
+enum-told-8 : tie.Need-enum-told-8
+enum-told-8 c = search needs
+
 returns : tie.Need-returns
 unfolding byteCase numberAt piece filled most
 returns c =
@@ -62,6 +65,11 @@ unfolding byteCase numberAt piece filled most
 returns-7 c =
     rw (c .enum-told7 .given .1) (record { reads = λ key numbers. refl; short = omega arith })
 
+returns-8 : tie.Need-returns-8
+unfolding byteCase numberAt piece filled most
+returns-8 c =
+    rw (c .enum-told8 .given .1) (record { reads = λ key numbers. refl; short = omega arith })
+
 pub answer-format-spec : {M : Type 1} → statement M
 answer-format-spec =
     tie.close
@@ -73,10 +81,12 @@ answer-format-spec =
     enum-told-5
     enum-told-6
     enum-told-7
+    enum-told-8
     returns
     returns-2
     returns-3
     returns-4
     returns-5
     returns-6
-    returns-7)
+    returns-7
+    returns-8)

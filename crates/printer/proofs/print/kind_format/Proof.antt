@@ -15,6 +15,9 @@ enum-told-2 c = search needs
 enum-told-3 : tie.Need-enum-told-3
 enum-told-3 c = search needs
 
+enum-told-4 : tie.Need-enum-told-4
+enum-told-4 c = search needs
+
 returns : tie.Need-returns
 unfolding byteCase numberAt piece filled most
 returns c = rw (c .enum-told .given .1) (record { reads = λ key numbers. refl; short = omega arith })
@@ -27,6 +30,10 @@ returns-3 : tie.Need-returns-3
 unfolding byteCase numberAt piece filled most
 returns-3 c = rw (c .enum-told3 .given .1) (record { reads = λ key numbers. refl; short = omega arith })
 
+returns-4 : tie.Need-returns-4
+unfolding byteCase numberAt piece filled most
+returns-4 c = rw (c .enum-told4 .given .1) (record { reads = λ key numbers. refl; short = omega arith })
+
 pub kind-format-spec : {M : Type 1} → statement M
 kind-format-spec =
-    tie.close (tie.spec enum-told enum-told-2 enum-told-3 returns returns-2 returns-3)
+    tie.close (tie.spec enum-told enum-told-2 enum-told-3 enum-told-4 returns returns-2 returns-3 returns-4)
