@@ -6,7 +6,7 @@ use mathlib.Core.Path.{_≡_, refl}
 use mathlib.Core.List.{List, [], _∷_, _++_}
 use lib.Count.{trailingZeros}
 use lib.ListN.{length, replicate, set}
-use Rattle.model.specs.Types.{Opening, Starting, Stepping, Looking, Inspecting, Status, Process, Kind, Put, Get, Scan, Phase}
+use Rattle.model.specs.Types.{Opening, Starting, Stepping, Looking, Inspecting, Status, Process, Kind, Put, Get, Scan, Phase, Follow}
 use Rattle.model.specs.Types.{Answer, Added, New, Found, Swept, Refusal}
 use Rattle.model.specs.Layout as Layout
 use Rattle.model.specs.Layout.{nodeWords, versionWords, limits, capacity, word}
@@ -14,7 +14,7 @@ use Rattle.model.specs.Numbers.{numberOf, answerNumber}
 use Rattle.model.specs.Map as Map
 use Rattle.model.specs.Map.{Entry}
 use Rattle.model.specs.State as State
-use Rattle.model.specs.State.{idleProcess, processAt}
+use Rattle.model.specs.State.{idleProcess, processAt, withEvent}
 use Rattle.model.specs.Phases as Phases
 use Rattle.model.specs.Calls as Calls
 use Rattle.model.specs.Calls.{Opened, openOf, topOf, startOf, Store, stepOf, lookOf, statusOf}
@@ -283,6 +283,15 @@ kept kind k v t top start phase level pred made a effect preds = keeps (record {
 abbrev pub scanned : List Action
 scanned = put 11 10 5 100 ++ put 12 30 6 100 ++ (startScan 1 10 20 ∷ steps 6 1) ++ put 11 5 8 100
 
+-- a scan from 20 to 9 that follows
+abbrev pub turned-round : Process
+turned-round = record {
+  call = record { kind = Scan; key = 20; last = 9; value = 0; timestamp = 0; top = 0; start = 13 };
+  cursor = record { phase = Follow; level = 0; pred = 0; made = 0 };
+  effect = idleProcess .effect;
+  preds = idleProcess .preds;
+}
+
 -- trays 7 and 9 put side by side on an empty store, to the end
 abbrev pub both : List Action
 both = side-by-side 7 5 100 9 6 101 ++ steps 4 0 ++ steps 7 1
@@ -398,6 +407,17 @@ last-shown = refl
 swept-past-last : asked three (scanned ++ steps 2 1) (call (step 1)) ≡ done Scan Swept 0 0 26 0 47
 unfolding asked
 swept-past-last = refl
+
+-- "(looked at first)": where the first was altered to lie above the last, a tray past the last ends the scan, and is not passed
+last-before-first : said (record {
+  bench = three;
+  actions = put 11 10 5 100 ++ (startScan 1 7 9 ∷ []);
+  alter = λ w. record { state = withEvent (w .state) 1 (w .state .counts) turned-round; nodes = w .nodes; versions = w .versions; tally = w .tally };
+  question = call (step 1);
+  expected = words [];
+}) ≡ done Scan Swept 0 0 13 0 15
+unfolding said
+last-before-first = refl
 
 -- "no tally counts it": three new, and no other
 not-tallied : asked three (scanned ++ steps 3 1) tally ≡ words (0 ∷ 0 ∷ 0 ∷ 0 ∷ 3 ∷ 0 ∷ 0 ∷ [])
