@@ -185,8 +185,8 @@ abbrev pub isFree : Pending → Bool
 isFree no-call = true
 isFree (has-call c) = false
 
--- "Start: 10, 5, 6, 7, 9.", with P1 10, 5, 6, 17, 7, 9; "Step: 10, 5, 8, 9, 11. Look: 10, 6, 12, 11, 13": of these, what is due after so many events, with these
--- calls pending. 10 and 11 never are; 12 and 13 are the map's to say.
+-- "Start: 10, 5, 6, 7, 9.", by P1 with 17 after 6; "Step: 10, 5, 8, 9, 11. Look: 10, 6, 12, 11, 13": of these, what is due after so
+-- many events, with these calls pending. 10 and 11 never are; 12 and 13 are the map's to say.
 unfoldable pub due : (processes limit events : ℕ) → (ℕ → Pending) → Action → Permit
 due processes limit events pending (start i op) =
     denyIf (leb processes i) NoProcess
