@@ -1,6 +1,6 @@
 -- The claim after a list: the ghost list of effects is what is read off answers and status, tick by tick.
 use Prim.Native.Nat.{ℕ, zero, suc, _+_, _≤_, _<_}
-use mathlib.Core.Bool.{true, false, not}
+use mathlib.Core.Bool.{false, not}
 use mathlib.Core.List.{List, [], _∷_, _++_}
 use mathlib.Core.Logic.{_≢_, _⊎_, inl, inr}
 use mathlib.Core.Path.{_≡_, refl, sym, ap, _∙_, subst}
@@ -16,10 +16,10 @@ use Rattle.model.specs.Calls.{Store, standing, statusOf}
 use Rattle.model.specs.System.{viewOf}
 use Rattle.model.specs.History.{Action, step, look, Invoked, Pending, no-call, has-call, Sight, Completed, Query, History, eventsIn, logOf, pendingIn, sightsIn, completedIn, queriesIn}
 use Rattle.model.specs.ByValue.{byValue}
-use Rattle.model.specs.Linearizability.{Effected, takesEffect, mustTakeEffect, completedEffects, shownEffect, runningEffects, effectsOf, fedAt, mapAfter, mapBefore, All, Any, Distinct, StepAt, replyTold, Sighted, Shows, ScanEnded, EndsWithout, Settled, StandsFor, HasShown, AnswersFrom, runningAs, runningBelow, countsOf, Demanded, Beyond, Claim}
+use Rattle.model.specs.Linearizability.{Effected, takesEffect, mustTakeEffect, completedEffects, shownEffect, runningEffects, effectsOf, fedAt, mapAfter, mapBefore, All, Any, Distinct, StepAt, replyTold, Shows, EndsWithout, Settled, StandsFor, HasShown, AnswersFrom, runningAs, runningBelow, countsOf, Demanded, Beyond, Claim}
 use Rattle.model.specs.Roles.{isIdle, isScan}
-use Rattle.model.proofs.Tests.{if-by, if-eq, if-no, by-eq, by-le, ne→neqb, is-true, T-absurd}
-use Rattle.linearizability.proofs.Effects.{Took, nothing, took, fed, played, played-snoc, all-map, nothing≢took, Entered, SightedIn, ShownIn, EndedIn, Settles}
+use Rattle.model.proofs.Tests.{if-by, if-eq, if-no, by-eq, by-le, ne→neqb, is-true}
+use Rattle.linearizability.proofs.Effects.{Took, nothing, took, fed, played, played-snoc, all-map, nothing≢took, Entered, ShownIn, EndedIn, Settles}
 use Rattle.linearizability.proofs.Following.{scan-unset}
 use Rattle.linearizability.proofs.Scanning.{Scanning}
 use Rattle.linearizability.proofs.Live.{memory, slot, keptOf, kept-kind, kind≢idle, has-injective, EndedAt, Pairs, busyBelow, Hist, LiveFrom, status-is, status-beyond}

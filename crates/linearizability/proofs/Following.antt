@@ -18,13 +18,13 @@ use Rattle.linearizability.proofs.Step.{Good, Related, related, within-
 
 -- ---- which phases a scan goes through
 
-scan-no-get : (k : Kind) → T (isScan k) → T (isGet k) → ⊥
+pub scan-no-get : (k : Kind) → T (isScan k) → T (isGet k) → ⊥
 scan-no-get Idle s g = s
 scan-no-get Put s g = s
 scan-no-get Get s g = s
 scan-no-get Scan s g = g
 
-scan-no-put : (k : Kind) → T (isScan k) → T (isPut k) → ⊥
+pub scan-no-put : (k : Kind) → T (isScan k) → T (isPut k) → ⊥
 scan-no-put Idle s p = s
 scan-no-put Put s p = s
 scan-no-put Get s p = s

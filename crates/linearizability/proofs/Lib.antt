@@ -16,6 +16,7 @@ pub mod Effects
 pub mod Scanning
 pub mod Live
 pub mod Started
+pub mod Tallied
 pub mod Stepped
 pub mod Looked
 pub mod Opened

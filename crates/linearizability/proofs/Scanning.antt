@@ -8,16 +8,15 @@ use native.Mathlib.Omega.{arith}
 use lib.Dec.{T, eqb}
 use lib.ListN.{length, getD, take, length-append}
 use lib.Seq.{take-append-le, take-all}
-use Rattle.linearizability.specs.Types.{Version, Found, Swept, Item}
+use Rattle.linearizability.specs.Types.{Version, Swept, Item}
 use Rattle.model.specs.Layout.{Memory, key, next}
-use Rattle.model.specs.Map.{Entry, Map, versionsOf, pushed, PutResult, putBy, putIn, getFrom, applied}
+use Rattle.model.specs.Map.{Entry, Map, versionsOf, pushed, PutResult, putBy, putIn, applied}
 use Rattle.model.specs.Numbers.{noVersion}
 use Rattle.model.specs.Requests.{Operation, put, get, scan, kindOf, firstOf, lastOf}
 use Rattle.model.specs.Roles.{isScan}
 use Rattle.model.specs.History.{Action, Invoked, Pending, no-call, has-call, Sight, Completed}
 use Rattle.model.specs.Linearizability.{All, replyTold}
 use Rattle.model.proofs.Tests.{by-eq, by-le, if-eq, if-lt, if-le, if-yes, if-no, eq→eqb, ne→neqb}
-use Rattle.linearizability.proofs.Level.{Level}
 use Rattle.linearizability.proofs.MapLaws.{no-entry}
 use Rattle.linearizability.proofs.Invariant.{Ghost, In, Nodes, Book}
 use Rattle.linearizability.proofs.Effects.{Took, nothing, took, fed, played, played-snoc, all-map, Has, IsShown, ShownIn, EndedIn, shown-grow}

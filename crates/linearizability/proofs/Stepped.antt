@@ -6,62 +6,34 @@ use mathlib.Core.List.{List, [], _∷_, _++_}
 use mathlib.Core.Logic.{_≢_, inl, inr}
 use mathlib.Core.Path.{_≡_, refl, sym, ap, _∙_, subst}
 use native.Mathlib.Omega.{arith}
-use lib.Dec.{T, eqb, ltb, leb, ltb→lt, lt→ltb, nleb→lt}
+use lib.Dec.{T, eqb, leb, nleb→lt}
 use lib.ListN.{length, getD, set, length-set, length-append}
 use lib.Seq.{getD-set-same, getD-set-other}
-use Rattle.linearizability.specs.Types.{Kind, Idle, Put, Get, Scan, Answer, Call, Cursor, Process, Version, Item, Permit, Granted, Denied, Move, Refuse, Wait, Go, Note, Commit, Show, End}
-use Rattle.model.specs.Choice.{if_then_else_}
+use Rattle.linearizability.specs.Types.{Idle, Answer, Call, Cursor, Process, Version, Item, Permit, Granted, Denied, Move, Refuse, Wait, Go, Note, Commit, Show, End}
 use Rattle.model.specs.Layout.{Memory, limits, levels}
 use Rattle.model.specs.Map.{Map, putIn, PutResult, Reply, getFrom, applied, Applied}
 use Rattle.model.specs.Map as Seq
-use Rattle.model.specs.Numbers.{answerNumber, isCounted}
 use Rattle.model.specs.Roles.{isPut, isGet, isScan}
 use Rattle.model.specs.State.{idleProcess, noProcess, withEvent}
 use Rattle.model.specs.Phases.{Moved, moved, ownVersion, transitionOf}
 use Rattle.model.specs.Calls.{callFor, Store, stepPermit, processAfter, outcomeOf, counted, tallyAfter, evented, storeAfter, stepBy, stepOf}
 use Rattle.model.specs.Requests.{Operation, put, get, scan, kindOf, firstOf, lastOf}
 use Rattle.model.specs.History.{Action, step, Invoked, Pending, no-call, has-call, pendingAt, isFree, due, Sight, sightsAt, Completed, finished}
-use Rattle.model.specs.Linearizability.{countedAt, takesEffect}
+use Rattle.model.specs.Linearizability.{takesEffect}
 use Rattle.model.proofs.Laws.{length-tally}
-use Rattle.model.proofs.Tests.{if-by, if-eq, by-eq, and→, →and, T-absurd, T-true, is-true, eq→eqb}
+use Rattle.model.proofs.Tests.{if-by, by-eq, T-absurd, T-true, is-true, eq→eqb}
 use Rattle.linearizability.proofs.Invariant.{Puts, Gets, Scans, Climbs}
 use Rattle.linearizability.proofs.Frame.{fits-kept}
 use Rattle.linearizability.proofs.Step.{Ending, Does, Good}
-use Rattle.linearizability.proofs.Following.{Nears, Shows, ScanDoes}
+use Rattle.linearizability.proofs.Following.{scan-no-get, scan-no-put, Nears, ScanDoes}
 use Rattle.linearizability.proofs.Transition.{transition-good, transition-scans}
 use Rattle.linearizability.proofs.Locks.{Locked, step-locked}
-use Rattle.linearizability.proofs.Effects.{Took, nothing, took, fed, played, nothing≢took, grows-on, Entered, ShownIn, EndedIn, shown-grow, entered-grow, entered-now}
+use Rattle.linearizability.proofs.Tallied.{tally-counts}
+use Rattle.linearizability.proofs.Effects.{Took, nothing, took, fed, played, nothing≢took, grows-on, Entered, EndedIn, shown-grow, entered-grow, entered-now}
 use Rattle.linearizability.proofs.Scanning.{Scanning, KeysStay, scanning-near, scanning-shown, scanning-ends}
 use Rattle.linearizability.proofs.Live.{memory, slot, Core, keptOf, Hist, LiveFrom, event-hist, done-grow, slot-same, core-lawful, one-busy, none-busy, busy-set, kept-kind, kind≢idle, idle-free, has-injective, pending-same, pending-other, sights-same, sights-other}
 use Rattle.linearizability.proofs.Started.{due-denied, no-fault, granted≢denied, kept-key, kept-last, kept-start}
 use Rattle.model.proofs.Seen.{Seen, isGranted, sawStep, seenDue, tickOf, unless}
-
--- ---- the tally
-
-answered-few : (n : ℕ) (l : List Completed) → countedAt n l ≤ length l
-unfolding countedAt
-answered-few n [] = omega arith
-answered-few n (d ∷ l) =
-    let h = answered-few n l in
-    if-by (λ (k : ℕ). k + countedAt n l ≤ suc (length l)) (eqb (answerNumber (d .told .answer)) n) (λ t. omega arith) (λ t. omega arith)
-
--- the tally after a finished call: far fewer calls were finished than a count holds
-tally-counts : (t : List ℕ) (ds : List Completed) (d : Completed) → length t ≡ limits .tally → length ds < limits .count
-    → ((n : ℕ) → n < limits .tally → getD t n 0 ≡ countedAt n ds)
-    → (n : ℕ) → n < limits .tally → getD (counted t (d .told .answer)) n 0 ≡ countedAt n (d ∷ ds)
-unfolding counted countedAt
-tally-counts t ds d l7 few e n lt =
-    let p = answerNumber (d .told .answer) in
-    if-by (λ (u : List ℕ). getD u n 0 ≡ (if eqb p n then 1 else 0) + countedAt n ds) (isCounted (d .told .answer) && ltb (getD t p 0) (limits .count))
-    (λ h. let below = ltb→lt p (limits .tally) (and→ (isCounted (d .told .answer)) (ltb (getD t p 0) (limits .count)) h .0) in
-    if-eq (λ (k : ℕ). getD (set t p (getD t p 0 + 1)) n 0 ≡ k + countedAt n ds) p n
-    (λ q. rw (← q) (getD-set-same t p (getD t p 0 + 1) 0 (omega (arith, l7)) ∙ omega (arith, e p below)))
-    (λ q. getD-set-other t p n (getD t p 0 + 1) 0 (λ z. q (sym z)) ∙ omega (arith, e n lt)))
-    (λ h. if-eq (λ (k : ℕ). getD t n 0 ≡ k + countedAt n ds) p n
-    (λ q. absurd (T-absurd (isCounted (d .told .answer) && ltb (getD t p 0) (limits .count))
-    (→and (isCounted (d .told .answer)) (ltb (getD t p 0) (limits .count)) (lt→ltb p (limits .tally) (omega arith))
-    (lt→ltb (getD t p 0) (limits .count) (omega (arith, e p (omega arith), answered-few p ds)))) h))
-    (λ q. omega (arith, e n lt)))
 
 -- ---- what the map makes of the call that a process keeps
 
@@ -262,6 +234,23 @@ module _ {from : List Took} {K W : ℕ} {w : Store} {h : Seen} (l : LiveFrom fro
 
   -- ---- the history
 
+  -- the store and what was seen after a step that does not end the call
+  abbrev after : Memory → Process → Store
+  after m q = record { state = withEvent (w .state) i (m .counts) q; nodes = m .nodes; versions = m .versions; tally = w .tally }
+
+  abbrev saw-on : (ℕ → List Sight) → Seen
+  saw-on ss = record {
+    processes = h .processes;
+    limit = h .limit;
+    log = log′;
+    pending = h .pending;
+    sights = ss;
+    starts = h .starts;
+    completed = h .completed;
+    queries = h .queries;
+    faults = faults;
+  }
+
   -- the call goes on, with the same arguments: x is what took effect, and `ss` what it has shown
   on-hist : (x : Took) (m : Memory) (q : Process) (b′ : Map) (ss : ℕ → List Sight) → length (m .nodes) ≡ length (w .nodes)
       → length (m .versions) ≡ length (w .versions) → KeysStay (memory w) m
@@ -270,18 +259,7 @@ module _ {from : List Took} {K W : ℕ} {w : Store} {h : Seen} (l : LiveFrom fro
       → (q .effect .tick ≢ 0 → Entered K W log′ (l .eff ++ (x ∷ [])) i c₀ (q .effect .tick) (record { answer = q .effect .answer; version = ownVersion (q .call) }))
       → ((n : ℕ) → pr .effect .tick ≡ suc n → q .effect .tick ≡ suc n)
       → ((n j : ℕ) (c : Invoked) → n ≡ length (h .log) → x ≡ took j c → (j ≡ i) × (c ≡ c₀) × (q .effect .tick ≡ suc n))
-      → Hist K W (record { state = withEvent (w .state) i (m .counts) q; nodes = m .nodes; versions = m .versions; tally = w .tally })
-      (record {
-        processes = h .processes;
-        limit = h .limit;
-        log = log′;
-        pending = h .pending;
-        sights = ss;
-        starts = h .starts;
-        completed = h .completed;
-        queries = h .queries;
-        faults = faults;
-      }) b′ (l .eff ++ (x ∷ []))
+      → Hist K W (after m q) (saw-on ss) b′ (l .eff ++ (x ∷ []))
   on-hist x m q b′ ss nl vl stay be ec other sc en keep now =
       let k = l .hist in
       let s = slot-same K W w h (l .b) (l .eff) k (l .core .array) i i8 (step i) x m q (w .tally) (h .pending) ss (h .starts) (h .completed) faults b′ in
@@ -427,28 +405,6 @@ module _ {from : List Took} {K W : ℕ} {w : Store} {h : Seen} (l : LiveFrom fro
       → (j ≡ i) × (c ≡ c₀) × (e ≡ suc n)
   now-took e ee n j c en ex = (cc, cc, omega (arith, tick-is))
 
-  -- nothing took effect
-  quiet-hist : (m : Memory) (q : Process) (b′ : Map) (ss : ℕ → List Sight) → length (m .nodes) ≡ length (w .nodes)
-      → length (m .versions) ≡ length (w .versions) → KeysStay (memory w) m
-      → b′ ≡ l .b → q .call ≡ pr .call → q .effect ≡ pr .effect
-      → ((j : ℕ) → j ≢ i → ss j ≡ h .sights j) → Scanning K W m (l .eff ++ (nothing ∷ [])) (has-call c₀) (q .cursor .pred) (ss i)
-      → Hist K W (record { state = withEvent (w .state) i (m .counts) q; nodes = m .nodes; versions = m .versions; tally = w .tally })
-      (record {
-        processes = h .processes;
-        limit = h .limit;
-        log = log′;
-        pending = h .pending;
-        sights = ss;
-        starts = h .starts;
-        completed = h .completed;
-        queries = h .queries;
-        faults = faults;
-      }) b′ (l .eff ++ (nothing ∷ []))
-  unfolding fed
-  quiet-hist m q b′ ss nl vl stay be ec ee other sc = on-hist nothing m q b′ ss nl vl stay be ec other sc
-      (λ ne. rw (ec, ee) (entered-grow K W (h .log) (l .eff) (step i) nothing even (l .hist .track i .entered c₀ (al .has) (rw ee at ne))))
-      (λ n e. rw ee e) (λ n j c e f. absurd (nothing≢took f))
-
   commit-hist : (m : Memory) (c : Cursor) (a : Answer) (b′ : Map) → length (m .nodes) ≡ length (w .nodes)
       → length (m .versions) ≡ length (w .versions) → KeysStay (memory w) m → (Scans pr → ⊥)
       → Does (memory w) pr tick (l .b) b′ (Commit c a)
@@ -462,12 +418,6 @@ module _ {from : List Took} {K W : ℕ} {w : Store} {h : Seen} (l : LiveFrom fro
       (record { answer = a; version = ownVersion (pr .call) }) refl refl begun
       (reply-of (puts b′ a (d .0) put))))
       (λ n e. absurd (omega (arith, d .1))) (now-took tick refl)
-
-  no-scan : (k : Kind) → T (isScan k) → (T (isPut k) → ⊥) × (T (isGet k) → ⊥)
-  no-scan Idle t = absurd t
-  no-scan Put t = absurd t
-  no-scan Get t = absurd t
-  no-scan Scan t = ((λ p. p), λ g. g)
 
   -- a get, a put whose effect is behind it, or a scan
   end-live : (m : Memory) (a : Answer) (v : Version) (e : ℕ) (G : Good (memory w) (l .g) i pr tick (l .b) (End a v e) m)
@@ -488,7 +438,7 @@ module _ {from : List Took} {K W : ℕ} {w : Store} {h : Seen} (l : LiveFrom fro
           entered-cast (sym (d .2 ∙ tick-is)) refl (entered-now K W (h .log) (l .eff) (step i) (took i c₀) even i c₀ (record { answer = a; version = v }) refl refl begun
               (reply-of (gets (record { answer = a; version = v }) (d .0) (d .3)))),
         ))
-        (ends-with (took i c₀) (ending a v e) (c₀ .operation) (λ t. no-scan (pr .call .kind) (scans t) .1 (d .0)))
+        (ends-with (took i c₀) (ending a v e) (c₀ .operation) (λ t. scan-no-get (pr .call .kind) (scans t) (d .0)))
         (λ n q. absurd (omega (arith, d .1))) (now-took e (d .2));
   }
   end-live m a v e G lk sd (inr (inl d)) =
@@ -504,7 +454,7 @@ module _ {from : List Took} {K W : ℕ} {w : Store} {h : Seen} (l : LiveFrom fro
               omega (arith, d .2, en .tick-is, en .within, even, tick-is),
               entered-cast (sym (d .2)) (rw (d .3, d .4) refl) (entered-grow K W (h .log) (l .eff) (step i) nothing even en),
             ))
-            (ends-with nothing (ending a v e) (c₀ .operation) (λ t. no-scan (pr .call .kind) (scans t) .0 (d .0)))
+            (ends-with nothing (ending a v e) (c₀ .operation) (λ t. scan-no-put (pr .call .kind) (scans t) (d .0)))
             (λ n q. d .2 ∙ q) (λ n j c q f. absurd (nothing≢took f));
       }
   end-live m a v e G lk sd (inr (inr d)) =
@@ -527,30 +477,21 @@ module _ {from : List Took} {K W : ℕ} {w : Store} {h : Seen} (l : LiveFrom fro
       no-effect (get k) is = absurd is
       no-effect (scan first last) is = tt
 
-  -- nothing took effect, and the process goes to node p′ or stays
+  -- nothing took effect
   quiet-live : (v : Move) (m : Memory) (q : Process) (ss : ℕ → List Sight) (G : Good (memory w) (l .g) i pr tick (l .b) v m)
-      → Core (record { state = withEvent (w .state) i (m .counts) q; nodes = m .nodes; versions = m .versions; tally = w .tally }) (G .g′) (G .b′)
-      → G .b′ ≡ l .b → q .call ≡ pr .call → q .effect ≡ pr .effect
+      → Core (after m q) (G .g′) (G .b′) → G .b′ ≡ l .b → q .call ≡ pr .call → q .effect ≡ pr .effect
       → ((j : ℕ) → j ≢ i → ss j ≡ h .sights j) → Scanning K W m (l .eff ++ (nothing ∷ [])) (has-call c₀) (q .cursor .pred) (ss i)
-      → LiveFrom from K W (record { state = withEvent (w .state) i (m .counts) q; nodes = m .nodes; versions = m .versions; tally = w .tally })
-      (record {
-        processes = h .processes;
-        limit = h .limit;
-        log = log′;
-        pending = h .pending;
-        sights = ss;
-        starts = h .starts;
-        completed = h .completed;
-        queries = h .queries;
-        faults = faults;
-      })
+      → LiveFrom from K W (after m q) (saw-on ss)
+  unfolding fed
   quiet-live v m q ss G core be ec ee other sc = record {
     g = G .g′;
     b = G .b′;
     eff = l .eff ++ (nothing ∷ []);
     grows = grows-on from (l .eff) nothing (l .grows);
     core = core;
-    hist = quiet-hist m q (G .b′) ss (G .node-words) (G .version-words) (keys-stay G) be ec ee other sc;
+    hist = on-hist nothing m q (G .b′) ss (G .node-words) (G .version-words) (keys-stay G) be ec other sc
+        (λ ne. rw (ec, ee) (entered-grow K W (h .log) (l .eff) (step i) nothing even (l .hist .track i .entered c₀ (al .has) (rw ee at ne))))
+        (λ n e. rw ee e) (λ n j c e f. absurd (nothing≢took f));
   }
 
   move-live : (v : Move) (m : Memory) → Good (memory w) (l .g) i pr tick (l .b) v m → Locked (memory w) i tick pr (moved m v)

@@ -12,7 +12,7 @@ use Rattle.model.specs.System.{Opens, After, System}
 use Rattle.model.specs.ByValue.{opensBy}
 use Rattle.buffers.specs.Session.{Session, Done, lent, tableWords, buffers, startOn, startedOn}
 use Rattle.executor.specs.Perform.{performOf}
-use Rattle.transcript.specs.Types.{Command, Open, Put, Get, Step, Look, Inspect, Line}
+use Rattle.transcript.specs.Types.{Open, Put, Get, Step, Look, Inspect, Line}
 use Rattle.transcript.specs.Meanings.{openMeant, startMeant, lookMeant, inspectMeant}
 
 -- both buffers and the tally are as long as the program lends them, whatever they hold
