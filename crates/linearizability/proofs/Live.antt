@@ -16,7 +16,7 @@ use Rattle.model.specs.State.{noProcess, idleProcess, processAt, memoryOf, with
 use Rattle.model.specs.Phases.{ownVersion, maxNodes, maxVersions}
 use Rattle.model.specs.Calls.{callFor, Store, standing, statusPermit, statusBy, statusOf}
 use Rattle.model.specs.Requests.{Operation, put, get, scan, kindOf}
-use Rattle.model.specs.History.{Action, Invoked, Pending, no-call, has-call, pendingAt, isFree, Sight, sightsAt, Completed}
+use Rattle.model.specs.History.{Action, Invoked, Pending, no-call, has-call, updated, isFree, Sight, Completed}
 use Rattle.model.specs.Linearizability.{All, Any, countedAt}
 use Rattle.model.specs.Roles.{isIdle}
 use Rattle.model.proofs.Tests.{is-true, by-eq, if-yes, if-no, eq→eqb, ne→neqb}
@@ -195,21 +195,13 @@ idle-free (has-call c) = by (c .operation)
 pub has-injective : {c d : Invoked} → has-call c ≡ has-call d → c ≡ d
 has-injective e = cc
 
-pub pending-same : (f : ℕ → Pending) (i : ℕ) (c : Pending) → pendingAt f i c i ≡ c
-unfolding pendingAt
-pending-same f i c = if-yes (eqb i i) c (f i) (eq→eqb i i refl)
+pub updated-same : {A : Type 0} (f : ℕ → A) (i : ℕ) (x : A) → updated f i x i ≡ x
+unfolding updated
+updated-same f i x = if-yes (eqb i i) x (f i) (eq→eqb i i refl)
 
-pub pending-other : (f : ℕ → Pending) (i : ℕ) (c : Pending) (j : ℕ) → j ≢ i → pendingAt f i c j ≡ f j
-unfolding pendingAt
-pending-other f i c j ne = if-no (eqb j i) c (f j) (ne→neqb j i ne)
-
-pub sights-same : (f : ℕ → List Sight) (i : ℕ) (ss : List Sight) → sightsAt f i ss i ≡ ss
-unfolding sightsAt
-sights-same f i ss = if-yes (eqb i i) ss (f i) (eq→eqb i i refl)
-
-pub sights-other : (f : ℕ → List Sight) (i : ℕ) (ss : List Sight) (j : ℕ) → j ≢ i → sightsAt f i ss j ≡ f j
-unfolding sightsAt
-sights-other f i ss j ne = if-no (eqb j i) ss (f j) (ne→neqb j i ne)
+pub updated-other : {A : Type 0} (f : ℕ → A) (i : ℕ) (x : A) (j : ℕ) → j ≢ i → updated f i x j ≡ f j
+unfolding updated
+updated-other f i x j ne = if-no (eqb j i) x (f j) (ne→neqb j i ne)
 
 -- one process of the array is replaced
 pub busy-set : (l : List Process) (i n : ℕ) (pr : Process) → i < n → i < length l

@@ -15,7 +15,7 @@ use Rattle.model.specs.Roles.{isPut}
 use Rattle.model.specs.State.{noProcess, lawfulKey, withEvent}
 use Rattle.model.specs.Calls.{Store, startPermit, begun, callFor, startBy, startOf}
 use Rattle.model.specs.Requests.{Operation, put, get, scan, firstOf, lastOf}
-use Rattle.model.specs.History.{Action, start, Invoked, Pending, no-call, has-call, pendingAt, isFree, due, Sight, sightsAt}
+use Rattle.model.specs.History.{Action, start, Invoked, Pending, no-call, has-call, updated, isFree, due, Sight}
 use Rattle.model.specs.ByValue.{withState}
 use Rattle.model.proofs.Laws.{top-at-most}
 use Rattle.model.proofs.Tests.{if-by, and→, by-eq, eq→eqb}
@@ -23,7 +23,7 @@ use Rattle.model.proofs.Words.{filled}
 use Rattle.linearizability.proofs.Invariant.{At, PlacedOf, Puts, fits-at}
 use Rattle.linearizability.proofs.Step.{searches}
 use Rattle.linearizability.proofs.Effects.{Took, nothing, fed, nothing≢took, grows-on, all-map, ShownIn}
-use Rattle.linearizability.proofs.Live.{memory, slot, Core, Hist, LiveFrom, event-hist, done-grow, core-lawful, one-busy, none-busy, busy-set, kept-kind, kind≢idle, idle-free, keptOf, has-injective, pending-same, pending-other, sights-same, sights-other, refused-live}
+use Rattle.linearizability.proofs.Live.{memory, slot, Core, Hist, LiveFrom, event-hist, done-grow, core-lawful, one-busy, none-busy, busy-set, kept-kind, kind≢idle, idle-free, keptOf, has-injective, updated-same, updated-other, refused-live}
 use Rattle.linearizability.proofs.Scanning.{Scanning, ReachedBy}
 use Rattle.model.proofs.Seen.{Seen, isDenied, isGranted, sawRefusal, sawStart, seenDue, tickOf, unless}
 
@@ -106,10 +106,10 @@ module _ {from : List Took} {K W : ℕ} {w : Store} {h : Seen} (l : LiveFrom fro
   invoked₀ = record { operation = op; start = tickOf h }
 
   abbrev pending′ : ℕ → Pending
-  pending′ = pendingAt (h .pending) i (has-call invoked₀)
+  pending′ = updated (h .pending) i (has-call invoked₀)
 
   abbrev sights′ : ℕ → List Sight
-  sights′ = sightsAt (h .sights) i []
+  sights′ = updated (h .sights) i []
 
   start-is : call .start ≡ w .state .events + 1
   start-is = kept-start op (w .state .events + 1)
@@ -213,14 +213,14 @@ module _ {from : List Took} {K W : ℕ} {w : Store} {h : Seen} (l : LiveFrom fro
           W-same = refl;
           map-is = refl;
           keys = (omega arith, λ x u. refl);
-          others = λ j ne. (pending-other (h .pending) i (has-call invoked₀) j ne, sights-other (h .sights) i [] j ne);
+          others = λ j ne. (updated-other (h .pending) i (has-call invoked₀) j ne, updated-other (h .sights) i [] j ne);
           track = record {
-            same = ap (callFor op) (omega (arith, q .ticks)) ∙ ap keptOf (sym (pending-same (h .pending) i (has-call invoked₀)));
+            same = ap (callFor op) (omega (arith, q .ticks)) ∙ ap keptOf (sym (updated-same (h .pending) i (has-call invoked₀)));
             resting = λ e. refl;
             begun = omega (arith, q .ticks, start-is, length-append (h .log) (a ∷ []));
             entered = λ d e ne. absurd (ne refl);
           };
-          scanning = rw (pending-same (h .pending) i (has-call invoked₀), sights-same (h .sights) i []) scanning-begun;
+          scanning = rw (updated-same (h .pending) i (has-call invoked₀), updated-same (h .sights) i []) scanning-begun;
           done =
               done-grow K W w h (l .b) (l .eff) q (k .array) i i8 a nothing (memory w) (begun call) (w .tally) pending′ sights′ (suc (h .starts)) (h .completed) 0 (l .b);
           kept = λ n j c d. d;
@@ -242,9 +242,9 @@ module _ {from : List Took} {K W : ℕ} {w : Store} {h : Seen} (l : LiveFrom fro
                 arith,
                 s .ended,
                 ap (λ (y : Invoked). y .start)
-                    (has-injective (sym (pending-same (h .pending) i (has-call invoked₀)) ∙ ap pending′ (sym e) ∙ ks)),
+                    (has-injective (sym (updated-same (h .pending) i (has-call invoked₀)) ∙ ap pending′ (sym e) ∙ ks)),
               )) (h .completed) (q .done))
-              (λ ne. q .past j c (sym (pending-other (h .pending) i (has-call invoked₀) j ne) ∙ ks));
+              (λ ne. q .past j c (sym (updated-other (h .pending) i (has-call invoked₀) j ne) ∙ ks));
           pairs = q .pairs;
         })
 

@@ -18,7 +18,7 @@ use Rattle.model.specs.State.{idleProcess, noProcess, withEvent}
 use Rattle.model.specs.Phases.{Moved, moved, ownVersion, transitionOf}
 use Rattle.model.specs.Calls.{callFor, Store, stepPermit, processAfter, outcomeOf, counted, tallyAfter, evented, storeAfter, stepBy, stepOf}
 use Rattle.model.specs.Requests.{Operation, put, get, scan, kindOf, firstOf, lastOf}
-use Rattle.model.specs.History.{Action, step, Invoked, Pending, no-call, has-call, pendingAt, isFree, due, Sight, sightsAt, Completed, finished}
+use Rattle.model.specs.History.{Action, step, Invoked, Pending, no-call, has-call, updated, isFree, due, Sight, Completed, finished}
 use Rattle.model.specs.Linearizability.{takesEffect}
 use Rattle.model.proofs.Laws.{length-tally}
 use Rattle.model.proofs.Tests.{if-by, by-eq, T-absurd, T-true, is-true, eq→eqb}
@@ -31,7 +31,7 @@ use Rattle.linearizability.proofs.Locks.{Locked, step-locked}
 use Rattle.linearizability.proofs.Tallied.{tally-counts}
 use Rattle.linearizability.proofs.Effects.{Took, nothing, took, fed, played, nothing≢took, grows-on, Entered, EndedIn, shown-grow, entered-grow, entered-now}
 use Rattle.linearizability.proofs.Scanning.{Scanning, KeysStay, scanning-near, scanning-shown, scanning-ends}
-use Rattle.linearizability.proofs.Live.{memory, slot, Core, keptOf, Hist, LiveFrom, event-hist, done-grow, slot-same, core-lawful, one-busy, none-busy, busy-set, kept-kind, kind≢idle, idle-free, has-injective, pending-same, pending-other, sights-same, sights-other}
+use Rattle.linearizability.proofs.Live.{memory, slot, Core, keptOf, Hist, LiveFrom, event-hist, done-grow, slot-same, core-lawful, one-busy, none-busy, busy-set, kept-kind, kind≢idle, idle-free, has-injective, updated-same, updated-other}
 use Rattle.linearizability.proofs.Started.{due-denied, no-fault, granted≢denied, kept-key, kept-last, kept-start}
 use Rattle.model.proofs.Seen.{Seen, isGranted, sawStep, seenDue, tickOf, unless}
 
@@ -323,7 +323,7 @@ module _ {from : List Took} {K W : ℕ} {w : Store} {h : Seen} (l : LiveFrom fro
     processes = h .processes;
     limit = h .limit;
     log = log′;
-    pending = pendingAt (h .pending) i no-call;
+    pending = updated (h .pending) i no-call;
     sights = h .sights;
     starts = h .starts;
     completed = ending a v e ∷ h .completed;
@@ -337,7 +337,7 @@ module _ {from : List Took} {K W : ℕ} {w : Store} {h : Seen} (l : LiveFrom fro
     processes = h .processes;
     limit = h .limit;
     log = log′;
-    pending = pendingAt (h .pending) i no-call;
+    pending = updated (h .pending) i no-call;
     sights = h .sights;
     starts = h .starts;
     completed = finished c i (h .sights i) (ending a v e .told) (tickOf h) (h .completed);
@@ -356,16 +356,16 @@ module _ {from : List Took} {K W : ℕ} {w : Store} {h : Seen} (l : LiveFrom fro
   end-hist x m b′ a v e nl vl stay be en without keep now =
       let k = l .hist in
       let d₀ = ending a v e in
-      let idle = pendingAt (h .pending) i no-call in
+      let idle = updated (h .pending) i no-call in
       event-hist K W w h (l .b) (l .eff) k (l .core .array) i i8 (step i) x m idleProcess (counted (w .tally) a) idle (h .sights) (h .starts) (d₀ ∷ h .completed) faults b′ (record {
         K-same = nl;
         W-same = vl;
         map-is = be;
         keys = stay;
-        others = λ j ne. (pending-other (h .pending) i no-call j ne, refl);
-        scanning = rw (pending-same (h .pending) i no-call) tt;
+        others = λ j ne. (updated-other (h .pending) i no-call j ne, refl);
+        scanning = rw (updated-same (h .pending) i no-call) tt;
         track =
-            record { same = ap keptOf (sym (pending-same (h .pending) i no-call)); resting = λ z. refl; begun = omega arith; entered = λ d e ne. absurd (ne refl) };
+            record { same = ap keptOf (sym (updated-same (h .pending) i no-call)); resting = λ z. refl; begun = omega arith; entered = λ d e ne. absurd (ne refl) };
         done = (
           record {
             kind = kind-is;
@@ -393,8 +393,8 @@ module _ {from : List Took} {K W : ℕ} {w : Store} {h : Seen} (l : LiveFrom fro
         few = omega (arith, k .few);
         no-faults = no-faults;
         past = λ j c ks. by-eq j i
-            (λ q. absurd (no≢has (sym (pending-same (h .pending) i no-call) ∙ ap idle (sym q) ∙ ks)))
-            (λ ne. ((λ z. absurd (ne (sym z))), k .past j c (sym (pending-other (h .pending) i no-call j ne) ∙ ks)));
+            (λ q. absurd (no≢has (sym (updated-same (h .pending) i no-call) ∙ ap idle (sym q) ∙ ks)))
+            (λ ne. ((λ z. absurd (ne (sym z))), k .past j c (sym (updated-other (h .pending) i no-call j ne) ∙ ks)));
         pairs = (k .past i c₀ (al .has), k .pairs);
       })
 
@@ -517,9 +517,9 @@ module _ {from : List Took} {K W : ℕ} {w : Store} {h : Seen} (l : LiveFrom fro
   }
   move-live (Show c x) m G lk sd =
       let s : Sight = record { item = x; tick = tickOf h } in
-      quiet-live (Show c x) m (processAfter tick pr (Show c x)) (sightsAt (h .sights) i (s ∷ h .sights i)) G (step-core (Show c x) m G lk)
-      (G .does .0) refl refl (λ j ne. sights-other (h .sights) i (s ∷ h .sights i) j ne)
-      (rw (sights-same (h .sights) i (s ∷ h .sights i)) (shows m c x (keys-stay G) (G .does .2) (sd (G .does .2))))
+      quiet-live (Show c x) m (processAfter tick pr (Show c x)) (updated (h .sights) i (s ∷ h .sights i)) G (step-core (Show c x) m G lk)
+      (G .does .0) refl refl (λ j ne. updated-other (h .sights) i (s ∷ h .sights i) j ne)
+      (rw (updated-same (h .sights) i (s ∷ h .sights i)) (shows m c x (keys-stay G) (G .does .2) (sd (G .does .2))))
   move-live (End a v e) m G lk sd =
       subst (λ (s : Seen). LiveFrom from K W (evented w i (End a v e) m) s) (saw-end a v e) (end-live m a v e G lk sd (G .does .1))
 

@@ -139,7 +139,7 @@ unfolding open-bench start call-of ledger-of answer-to
     Inspection.chainFalls Inspection.chainAges Inspection.chainSound Inspection.versionsSound Inspection.reaching
     Inspection.levelFrom Inspection.levelsFrom Inspection.inspection Inspection.idleBelow Inspection.inspectPermit
     Inspection.inspectBy inspectOf
-    History.pendingAt History.sightsAt History.logOf History.pendingIn History.sightsIn History.startsIn History.completedIn History.queriesIn History.due History.perform
+    History.updated History.logOf History.pendingIn History.sightsIn History.startsIn History.completedIn History.queriesIn History.due History.perform
     performAll Seen.sawStart Seen.sawStep Seen.sawLook Seen.saw faultsOf
     Map.versionsOf Map.held Map.pushed Map.putBy Map.putIn Map.getBy Map.getFrom Map.applied Linearizability.completedEffects
     Linearizability.shownEffect Linearizability.runningEffects effectsOf Linearizability.fedAt mapAfter

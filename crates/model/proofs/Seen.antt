@@ -9,7 +9,7 @@ use Rattle.model.specs.Types.{Refusal, Permit, Granted, Denied, Starting
 use Rattle.model.specs.Choice.{if_then_else_}
 use Rattle.model.specs.Numbers.{numberOf}
 use Rattle.model.specs.Requests.{Operation}
-use Rattle.model.specs.History.{Action, start, step, Observation, started, stepped, looked, Pending, no-call, has-call, pendingAt, Sight, sightsAt, due, Completed, finished, Query, History, logOf, pendingIn, sightsIn, startsIn, completedIn, queriesIn, noted}
+use Rattle.model.specs.History.{Action, start, step, Observation, started, stepped, looked, Pending, no-call, has-call, updated, Sight, due, Completed, finished, Query, History, logOf, pendingIn, sightsIn, startsIn, completedIn, queriesIn, noted}
 use Rattle.model.specs.Linearizability.{Effected, completedEffects, runningEffects, effectsOf}
 
 pub record Seen : Type 0 where
@@ -77,7 +77,7 @@ sawEvent h a pending sights starts completed due tick =
 unfoldable pub sawStart : Seen → (process : ℕ) → Operation → Starting → Seen
 sawStart h i op (Starting.Refused r) = sawRefusal h (isDenied (seenDue h (start i op)) r)
 sawStart h i op (Starting.Started t) =
-    sawEvent h (start i op) (pendingAt (h .pending) i (has-call (record { operation = op; start = tickOf h }))) (sightsAt (h .sights) i [])
+    sawEvent h (start i op) (updated (h .pending) i (has-call (record { operation = op; start = tickOf h }))) (updated (h .sights) i [])
     (suc (h .starts)) (h .completed) (seenDue h (start i op)) t
 
 unfoldable pub sawStep : Seen → (process : ℕ) → Stepping → Seen
@@ -85,10 +85,10 @@ sawStep h i (Stepping.Refused r) = sawRefusal h (isDenied (seenDue h (step i)) r
 sawStep h i (Stepping.Moved t) = sawEvent h (step i) (h .pending) (h .sights) (h .starts) (h .completed) (seenDue h (step i)) t
 sawStep h i (Stepping.Waited t) = sawEvent h (step i) (h .pending) (h .sights) (h .starts) (h .completed) (seenDue h (step i)) t
 sawStep h i (Stepping.Shown t x) =
-    sawEvent h (step i) (h .pending) (sightsAt (h .sights) i (record { item = x; tick = tickOf h } ∷ h .sights i)) (h .starts) (h .completed)
+    sawEvent h (step i) (h .pending) (updated (h .sights) i (record { item = x; tick = tickOf h } ∷ h .sights i)) (h .starts) (h .completed)
     (seenDue h (step i)) t
 sawStep h i (Stepping.Finished f) =
-    sawEvent h (step i) (pendingAt (h .pending) i no-call) (h .sights) (h .starts)
+    sawEvent h (step i) (updated (h .pending) i no-call) (h .sights) (h .starts)
     (finished (h .pending i) i (h .sights i) f (tickOf h) (h .completed)) (seenDue h (step i)) (f .finish)
 
 unfoldable pub sawLook : Seen → (key back : ℕ) → Looking → Seen

@@ -83,18 +83,19 @@ pub data Pending : Type 0 where
   no-call : Pending
   has-call : Invoked → Pending
 
-unfoldable pub pendingAt : (ℕ → Pending) → ℕ → Pending → ℕ → Pending
-pendingAt f i c j = if eqb j i then c else f j
+-- what each process has, with that of process i replaced
+unfoldable pub updated : {A : Type 0} → (ℕ → A) → (process : ℕ) → A → ℕ → A
+updated f i x j = if eqb j i then x else f j
 
 -- what each process has after an entry, an event of this tick if it is one
 abbrev pub pendingAfter : Observation → (tick : ℕ) → (ℕ → Pending) → ℕ → Pending
 pendingAfter (started i op (Starting.Refused r)) tick f = f
-pendingAfter (started i op (Starting.Started t)) tick f = pendingAt f i (has-call (record { operation = op; start = tick }))
+pendingAfter (started i op (Starting.Started t)) tick f = updated f i (has-call (record { operation = op; start = tick }))
 pendingAfter (stepped i (Stepping.Refused r)) tick f = f
 pendingAfter (stepped i (Stepping.Moved t)) tick f = f
 pendingAfter (stepped i (Stepping.Waited t)) tick f = f
 pendingAfter (stepped i (Stepping.Shown t x)) tick f = f
-pendingAfter (stepped i (Stepping.Finished d)) tick f = pendingAt f i no-call
+pendingAfter (stepped i (Stepping.Finished d)) tick f = updated f i no-call
 pendingAfter (looked k back o) tick f = f
 
 unfoldable pub pendingIn : List Observation → (process : ℕ) → Pending
@@ -106,17 +107,14 @@ pub record Sight : Type 0 where
   pub item : Item
   pub tick : ℕ
 
-unfoldable pub sightsAt : (ℕ → List Sight) → ℕ → List Sight → ℕ → List Sight
-sightsAt f i ss j = if eqb j i then ss else f j
-
 -- what the last call of each process has shown after an entry, an event of this tick if it is one
 abbrev pub sightsAfter : Observation → (tick : ℕ) → (ℕ → List Sight) → ℕ → List Sight
 sightsAfter (started i op (Starting.Refused r)) tick f = f
-sightsAfter (started i op (Starting.Started t)) tick f = sightsAt f i []
+sightsAfter (started i op (Starting.Started t)) tick f = updated f i []
 sightsAfter (stepped i (Stepping.Refused r)) tick f = f
 sightsAfter (stepped i (Stepping.Moved t)) tick f = f
 sightsAfter (stepped i (Stepping.Waited t)) tick f = f
-sightsAfter (stepped i (Stepping.Shown t x)) tick f = sightsAt f i (record { item = x; tick = tick } ∷ f i)
+sightsAfter (stepped i (Stepping.Shown t x)) tick f = updated f i (record { item = x; tick = tick } ∷ f i)
 sightsAfter (stepped i (Stepping.Finished d)) tick f = f
 sightsAfter (looked k back o) tick f = f
 
