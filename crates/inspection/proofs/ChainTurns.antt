@@ -1,72 +1,72 @@
--- One turn of each walk of a chain, under the inspection's own bound: places fall, so the bound need not fall with them.
--- p, s and t are what the code read.
+-- One turn of the pass along a chain, under the inspection's own bound: places fall, so the bound need not fall with them.
+-- p and b are what the code read and found.
 use Prim.Native.Nat.{ℕ, suc, _+_, _≤_, _<_}
-use mathlib.Core.Bool.{true, false}
-use mathlib.Core.Path.{_≡_, _∙_, sym}
+use mathlib.Core.Bool.{Bool, true, false, not, _&&_, _||_}
+use mathlib.Core.Logic.{_≢_}
+use mathlib.Core.Path.{_≡_, refl, sym, _∙_}
 use native.Mathlib.Numerals.{add-one}
 use native.Mathlib.Omega.{arith}
-use borrow.Author.Tests.{eq-eqb, ne-eqb, le-leb, lt-leb, lt-ltb, le-ltb}
+use lib.Dec.{T, eqb, leb, ltb, leb→le, eqb→eq}
+use borrow.Author.Tests.{eq-eqb, ne-eqb, le-leb, leb-false}
+use Rattle.model.specs.declared.types.Inspecting.{Inspecting}
+use Rattle.model.specs.Choice.{if_then_else_}
 use Rattle.model.specs.Layout.{Memory, timestamp, prev}
-use Rattle.model.specs.Inspection.{chainFalls, chainAges}
-use Rattle.model.specs.Soundness.{InUse}
-use Rattle.model.proofs.Tests.{T-true}
-use Rattle.model.proofs.ChainBound.{falls-turn, falls-fuel, ages-fuel}
+use Rattle.model.specs.Inspection.{chainFalls}
+use Rattle.model.proofs.Tests.{by-eq}
+use Rattle.model.proofs.Stops.{if-same, not-not→}
+use Rattle.model.proofs.ChainBound.{Enough, falls-fuel, ages-fuel}
+use Rattle.inspection.specs.Faults.{versionFault}
+use Rattle.inspection.specs.OnePass.{twoPasses, onePass}
+use Rattle.inspection.proofs.OnePass.{one-pass}
 
-module _ (m : Memory) (i : ℕ) where
-  abbrev last : ℕ
-  last = m .counts .versions
+pub or-false : (a b : Bool) → a || b ≡ false → (a ≡ false) × (b ≡ false)
+or-false true b h = absurd (let z : _≡_ {A = ℕ} 0 1 = cc in omega arith)
+or-false false b h = (refl, h)
 
-  pub falls-zero : i ≡ 0 → chainFalls m (last + 1) i ≡ false
-  unfolding chainFalls
-  falls-zero z = rw add-one (let u = lt-leb 1 i (omega arith) in simp u)
+grouped : {A : Type 0} (rises oldest younger : Bool) (fault sound rest : A) → (T rises → T oldest → ⊥)
+    → (if rises then fault else if oldest then sound else if younger then fault else rest)
+    ≡ (if not oldest && (rises || younger) then fault else if oldest then sound else rest)
+grouped true true younger fault sound rest h = absurd (h tt tt)
+grouped true false younger fault sound rest h = refl
+grouped false true younger fault sound rest h = refl
+grouped false false true fault sound rest h = refl
+grouped false false false fault sound rest h = refl
 
-  pub falls-unused : 1 ≤ i → last < i → chainFalls m (last + 1) i ≡ false
-  unfolding chainFalls
-  falls-unused a b = rw add-one (simp (le-leb 1 i a, lt-leb _ _ b))
+module _ (m : Memory) (l x : ℕ) where
+  -- two bounds that are enough give one answer, since they do for each of the two passes
+  pass-fuel : (f g i : ℕ) → Enough m f i → Enough m g i → onePass m l x f i ≡ onePass m l x g i
+  unfolding twoPasses
+  pass-fuel f g i a b = one-pass m l x f i ∙ two-fuel ∙ sym (one-pass m l x g i)
+    where
+      two-fuel : twoPasses m l x f i ≡ twoPasses m l x g i
+      two-fuel = rw (← falls-fuel m f g i a b)
+          (if-same (not (chainFalls m f i)) _ λ t. rw (ages-fuel m f g i a b (not-not→ (chainFalls m f i) t)))
 
-  module _ (p : ℕ) (e : p ≡ prev (m .versions) i) (a : 1 ≤ i) (b : i ≤ last) where
-    pub falls-rising : i ≤ p → chainFalls m (last + 1) i ≡ false
-    unfolding chainFalls
-    falls-rising q = rw add-one (simp (le-leb 1 i a, le-leb _ _ b, ← e, le-leb _ _ q))
+  -- what is left of the pass from version i on; 0 is behind the oldest
+  abbrev pub left : ℕ → Inspecting
+  left i = if eqb i 0 then Inspecting.Sound else onePass m l x (m .counts .versions + 1) i
 
-    pub falls-oldest : p < i → p ≡ 0 → chainFalls m (last + 1) i ≡ true
-    unfolding chainFalls
-    falls-oldest q z = rw add-one (simp (le-leb 1 i a, le-leb _ _ b, ← e, lt-leb _ _ q, eq-eqb _ _ z))
+  pub pass-ends : (i : ℕ) → i ≡ 0 → left i ≡ Inspecting.Sound
+  pass-ends i z = simp (eq-eqb i 0 z)
 
-    pub falls-on : p < i → (p ≡ 0 → ⊥) → chainFalls m (last + 1) i ≡ chainFalls m (last + 1) p
-    unfolding chainFalls
-    falls-on q z = rw add-one (simp (le-leb 1 i a, le-leb _ _ b, ← e, lt-leb _ _ q, ne-eqb _ _ z)
-        (falls-fuel m last (suc last) p (omega arith) (omega arith)))
+  module _ (i : ℕ) (nz : i ≢ 0) (used : i ≤ m .counts .versions) (p : ℕ) (ep : p ≡ prev (m .versions) i) where
+    -- the tests of a version in use, grouped as in the code: where none is before it, p is 0 and so smaller than i
+    turn : (fuel : ℕ) → onePass m l x (suc fuel) i
+        ≡ (if versionFault (m .versions) i p then Inspecting.Fault l x else if eqb p 0 then Inspecting.Sound else onePass m l x fuel p)
+    unfolding onePass
+    turn fuel = simp (le-leb 1 i (omega arith), le-leb i (m .counts .versions) used, ← ep)
+        (grouped (leb i p) (eqb p 0) (ltb (timestamp (m .versions) i) (timestamp (m .versions) p)) _ _ _
+        λ r z. let a = leb→le i p r in let c = eqb→eq p 0 z in omega arith)
 
-  -- ---- timestamps, along a chain that falls
+    module _ (b : Bool) (eb : b ≡ versionFault (m .versions) i p) where
+      pub pass-stops : b ≡ true → left i ≡ Inspecting.Fault l x
+      pass-stops h = simp (ne-eqb i 0 nz) (rw add-one (turn (m .counts .versions) ∙ simp (← eb, h)))
 
-  module _ (f : chainFalls m (last + 1) i ≡ true) where
-    pub falls-used : InUse m i
-    falls-used = falls-turn m last i (rw add-one at (T-true f)) .0
-
-    module _ (p : ℕ) (e : p ≡ prev (m .versions) i) where
-      pub falls-less : p < i
-      falls-less = rw e (falls-turn m last i (rw add-one at (T-true f)) .1)
-
-      pub ages-oldest : p ≡ 0 → chainAges m (last + 1) i ≡ true
-      unfolding chainAges
-      ages-oldest z = rw add-one (simp (← e, eq-eqb _ _ z))
-
-      module _ (nz : p ≡ 0 → ⊥) where
-        pub falls-behind : chainFalls m (last + 1) p ≡ true
-        falls-behind = let u = falls-used in sym (falls-on p e (u .0) (u .1) falls-less nz) ∙ f
-
-        module _ (s t : ℕ) (es : s ≡ timestamp (m .versions) i) (et : t ≡ timestamp (m .versions) p) where
-          pub ages-younger : s < t → chainAges m (last + 1) i ≡ false
-          unfolding chainAges
-          ages-younger q = rw add-one (simp (← e, ne-eqb _ _ nz, ← es, ← et, lt-ltb _ _ q))
-
-          older : t ≤ s → chainAges m (suc last) i ≡ chainAges m last p
-          unfolding chainAges
-          older q = simp (← e, ne-eqb _ _ nz, ← es, ← et, le-ltb _ _ q)
-
-          pub ages-on : t ≤ s → chainAges m (last + 1) i ≡ chainAges m (last + 1) p
-          ages-on q =
-              let u = falls-used in
-              let h = falls-turn m last i (rw add-one at (T-true f)) .2 (λ z. nz (e ∙ z)) in
-              rw add-one (older q ∙ ages-fuel m last (suc last) p (omega arith) (omega arith) (rw (← e) at h))
+      pub pass-goes : b ≡ false → (p < i) × (left i ≡ left p)
+      pass-goes h = (
+        by-eq p 0 (λ z. omega arith) λ ne.
+            let e = simp (ne-eqb p 0 ne) at (sym eb ∙ h) in
+            leb-false i p (or-false (leb i p) (ltb (timestamp (m .versions) i) (timestamp (m .versions) p)) e .0),
+        simp (ne-eqb i 0 nz) (rw add-one (turn (m .counts .versions) ∙ simp (← eb, h)
+            (if-same (eqb p 0) _ λ ne. pass-fuel (m .counts .versions) (suc (m .counts .versions)) p (omega arith) (omega arith)))),
+      )

@@ -1,55 +1,68 @@
--- One turn of the walk of a level, as the definition has it: its tests in the two groups of the code, under a bound that
--- is just enough from the node reached. b, y, n and t are what the code found.
+-- One turn of the walk of a level, as the definition has it: its tests in the groups of the code, under a bound that is just enough
+-- from the node reached. b, y, n and d are what the code found.
 use Prim.Native.Nat.{ℕ, zero, suc, _+_, _-_, _≤_, _<_}
-use mathlib.Core.Bool.{Bool, true, false, not, _||_}
+use mathlib.Core.Bool.{Bool, true, false, not, _&&_, _||_}
 use mathlib.Core.Path.{_≡_, refl, sym, _∙_}
-use mathlib.Core.List.{List}
 use native.Mathlib.Numerals.{add-one}
 use native.Mathlib.Omega.{arith}
-use lib.Dec.{eqb, ltb, leb}
-use borrow.Author.Tests.{eq-eqb, ne-eqb, le-leb, lt-leb, lt-ltb, le-ltb, leb-false, ltb-false}
+use lib.Dec.{T, eqb, ltb, leb, leb→le}
+use borrow.Author.Tests.{eq-eqb, ne-eqb, lt-ltb, le-ltb, leb-false, ltb-false}
 use Rattle.model.specs.declared.types.Inspecting.{Inspecting}
 use Rattle.model.specs.Choice.{if_then_else_}
-use Rattle.model.specs.Layout.{Memory, topLevel, levels, key, top, next, lock}
-use Rattle.model.specs.Inspection.{chainSound, versionsSound, reaching, levelFrom, thenInspect, levelsFrom}
+use Rattle.model.specs.Layout.{Memory, topLevel, levels, key, newest, top, next, lock}
+use Rattle.model.specs.Phases.{usedVersion}
+use Rattle.model.specs.Inspection.{chainFalls, chainSound, versionsSound, reaching, levelFrom, thenInspect, levelsFrom}
+use Rattle.model.proofs.Tests.{T-true, and→}
 use Rattle.model.proofs.LevelBound.{ahead, fewer-ahead, ahead-most, level-fuel}
-use Rattle.inspection.specs.Faults.{nodeFault, linkFault}
+use Rattle.inspection.specs.Faults.{hasVersions, chainStart, nodeFault, linkFault}
+use Rattle.inspection.proofs.ChainTurns.{left, or-false}
+use Rattle.inspection.proofs.OnePass.{one-pass-sound}
 
 -- ---- the versions of a node, looked at on level 0 alone
 
-pub sound-above : (m : Memory) (l x : ℕ) → 0 < l → versionsSound m l x ≡ true
+-- a lock held, or versions that are not sound
+abbrev pub wrong : Memory → (level x : ℕ) → Bool
+wrong m l x = not (eqb (lock (m .nodes) l x) 0) || not (versionsSound m l x)
+
+unused : (m : Memory) (x : ℕ) → usedVersion m (newest (m .nodes) x) ≡ false → chainSound m x ≡ false
+unfolding chainSound chainFalls
+unused m x h = rw add-one (simp h)
+
+-- `pass` is what the pass along the chain answers, which is asked where the chain begins at a version in use
+answers : {A : Type 0} (held used chain : Bool) (fault sound pass : A)
+    → (used ≡ false → chain ≡ false) → (used ≡ true → pass ≡ (if chain then sound else fault))
+    → (if held || not chain then fault else sound) ≡ (if held || not used then fault else pass)
+answers true used chain fault sound pass f g = refl
+answers false false chain fault sound pass f g = simp (f refl)
+answers false true true fault sound pass f g = sym (g refl)
+answers false true false fault sound pass f g = sym (g refl)
+
+-- the tests of a node, in document 01's order and in the code's
+node-answers : (m : Memory) (l x : ℕ) → (if wrong m l x then Inspecting.Fault l x else Inspecting.Sound)
+    ≡ (if nodeFault m l x then Inspecting.Fault l x else left m l x (chainStart (m .nodes) l x))
 unfolding versionsSound
-sound-above m zero x h = absurd (omega arith)
-sound-above m (suc l) x h = refl
+node-answers m zero zero = refl
+node-answers m zero (suc x) =
+    let i = newest (m .nodes) (suc x) in
+    simp (ne-eqb (suc x) 0 (omega arith))
+    (answers (not (eqb (lock (m .nodes) 0 (suc x)) 0)) (usedVersion m i) (chainSound m (suc x)) _ _ (left m 0 (suc x) i)
+    (unused m (suc x))
+    (λ u. let h = leb→le 1 i (and→ (leb 1 i) (leb i (m .counts .versions)) (T-true u) .0) in
+    simp (ne-eqb i 0 (omega arith)) (one-pass-sound m 0 (suc x))))
+node-answers m (suc l) x = simp (ne-eqb (suc l) 0 (omega arith))
 
-pub sound-head : (m : Memory) (l x : ℕ) → l ≤ 0 → x ≡ 0 → versionsSound m l x ≡ true
-unfolding versionsSound
-sound-head m zero zero h z = refl
-sound-head m zero (suc x) h z = absurd (omega arith)
-sound-head m (suc l) x h z = refl
+starts : (has used : Bool) (n k : ℕ) → has && not used ≡ false → (T used → n ≤ k) → (if has then n else 0) ≤ k
+starts true true n k h f = f tt
+starts true false n k h f = absurd (let z : _≡_ {A = ℕ} 0 1 = cc in omega arith)
+starts false used n k h f = omega arith
 
-pub sound-chain : (m : Memory) (l x : ℕ) → l ≤ 0 → (x ≡ 0 → ⊥) → versionsSound m l x ≡ chainSound m x
-unfolding versionsSound
-sound-chain m zero zero h nz = absurd (nz refl)
-sound-chain m zero (suc x) h nz = refl
-sound-chain m (suc l) x h nz = absurd (omega arith)
+tells-wrong : (l x : ℕ) (b : Bool) → (if b then Inspecting.Fault l x else Inspecting.Sound) ≡ Inspecting.Fault l x → b ≡ true
+tells-wrong l x true e = refl
+tells-wrong l x false e = absurd (let z : _≡_ {A = ℕ} 0 1 = cc in omega arith)
 
--- ---- the count of the nodes whose top reaches the level, one node more
-
-pub reaching-none : (nodes : List ℕ) (l : ℕ) → reaching nodes l 0 ≡ 0
-unfolding reaching
-reaching-none nodes l = refl
-
-module _ (nodes : List ℕ) (l x t : ℕ) (e : t ≡ top nodes (x + 1)) where
-  one-more : reaching nodes l (x + 1) ≡ (if leb l t then 1 else 0) + reaching nodes l x
-  unfolding reaching
-  one-more = rw (e, add-one x)
-
-  pub reaching-more : l ≤ t → reaching nodes l (x + 1) ≡ reaching nodes l x + 1
-  reaching-more h = one-more ∙ simp (le-leb _ _ h) (omega arith)
-
-  pub reaching-same : t < l → reaching nodes l (x + 1) ≡ reaching nodes l x
-  reaching-same h = one-more ∙ simp (lt-leb _ _ h) (omega arith)
+tells-right : (l x : ℕ) (b : Bool) → (if b then Inspecting.Fault l x else Inspecting.Sound) ≡ Inspecting.Sound → b ≡ false
+tells-right l x true e = absurd (let z : _≡_ {A = ℕ} 0 1 = cc in omega arith)
+tells-right l x false e = refl
 
 -- ---- the walk of a level
 
@@ -64,10 +77,6 @@ stops false false false false true f fault end on = refl
 stops false false false false false true fault end on = refl
 stops false false false false false false fault end on = refl
 
-or-false : (a b : Bool) → a || b ≡ false → (a ≡ false) × (b ≡ false)
-or-false true b h = absurd (let z : _≡_ {A = ℕ} 0 1 = cc in omega arith)
-or-false false b h = (refl, h)
-
 module _ (m : Memory) (l seen x : ℕ) where
   abbrev rest : Inspecting
   rest = levelFrom m l (suc (ahead m l x)) seen x
@@ -78,7 +87,7 @@ module _ (m : Memory) (l seen x : ℕ) where
   abbrev last : Inspecting
   last = if ltb seen (reaching (m .nodes) l (m .counts .nodes)) then Inspecting.Fault l x else Inspecting.Sound
 
-  turn : rest ≡ (if nodeFault m l x then Inspecting.Fault l x else if eqb to 0 then last
+  turn : rest ≡ (if wrong m l x then Inspecting.Fault l x else if eqb to 0 then last
       else if linkFault m l x to then Inspecting.Fault l x else levelFrom m l (ahead m l x) (seen + 1) to)
   unfolding levelFrom
   turn =
@@ -93,29 +102,43 @@ module _ (m : Memory) (l seen x : ℕ) where
 
   module _ (b : Bool) (eb : b ≡ nodeFault m l x) where
     pub node-stops : b ≡ true → rest ≡ Inspecting.Fault l x
-    node-stops h = turn ∙ simp (← eb, h)
+    node-stops h = turn ∙ simp (tells-wrong l x (wrong m l x) (node-answers m l x ∙ simp (← eb, h)))
 
-    module _ (h : b ≡ false) (y : ℕ) (ey : y ≡ to) where
-      module _ (z : y ≡ 0) (n : ℕ) (en : n ≡ reaching (m .nodes) l (m .counts .nodes)) where
-        pub level-short : seen < n → rest ≡ Inspecting.Fault l x
-        level-short q = turn ∙ simp (← eb, h, ← ey, eq-eqb _ _ z, ← en, lt-ltb _ _ q)
+    module _ (h : b ≡ false) where
+      pub chain-starts : chainStart (m .nodes) l x ≤ m .counts .versions
+      chain-starts =
+          let i = newest (m .nodes) x in
+          starts (hasVersions l x) (usedVersion m i) i (m .counts .versions)
+          (or-false (not (eqb (lock (m .nodes) l x) 0)) (hasVersions l x && not (usedVersion m i)) (sym eb ∙ h) .1)
+          λ u. leb→le i (m .counts .versions) (and→ (leb 1 i) (leb i (m .counts .versions)) u .1)
 
-        pub level-whole : n ≤ seen → rest ≡ Inspecting.Sound
-        level-whole q = turn ∙ simp (← eb, h, ← ey, eq-eqb _ _ z, ← en, le-ltb _ _ q)
+      pub chain-stops : left m l x (chainStart (m .nodes) l x) ≡ Inspecting.Fault l x → rest ≡ Inspecting.Fault l x
+      chain-stops e = turn ∙ simp (tells-wrong l x (wrong m l x) (node-answers m l x ∙ simp (← eb, h) e))
 
-      module _ (nz : y ≡ 0 → ⊥) (d : Bool) (ed : d ≡ linkFault m l x y) where
-        pub link-stops : d ≡ true → rest ≡ Inspecting.Fault l x
-        link-stops g = turn ∙ simp (← eb, h, ← ey, ne-eqb _ _ nz, ← ed, g)
+      pub node-right : left m l x (chainStart (m .nodes) l x) ≡ Inspecting.Sound → wrong m l x ≡ false
+      node-right e = tells-right l x (wrong m l x) (node-answers m l x ∙ simp (← eb, h) e)
 
-        pub level-goes : d ≡ false → Onward y
-        level-goes g =
-            let out = ltb (m .counts .nodes) y || leb (key (m .nodes) y) (key (m .nodes) x) in
-            let a = or-false out (ltb (top (m .nodes) y) l) (sym ed ∙ g) in
-            let b = or-false (ltb (m .counts .nodes) y) (leb (key (m .nodes) y) (key (m .nodes) x)) (a .0) in
-            let used = ltb-false (m .counts .nodes) y (b .0) in
-            let nears = fewer-ahead m l x y nz (used, λ _. ltb-false _ _ (a .1)) (leb-false _ _ (b .1)) in
-            let same = level-fuel m l (ahead m l x) (suc (ahead m l y)) (seen + 1) y (omega arith) (omega arith) in
-            record { used = used; nears = nears; goes = turn ∙ simp (← eb, h, ← ey, ne-eqb _ _ nz, ← ed, g) same }
+  module _ (r : wrong m l x ≡ false) (y : ℕ) (ey : y ≡ to) where
+    module _ (z : y ≡ 0) (n : ℕ) (en : n ≡ reaching (m .nodes) l (m .counts .nodes)) where
+      pub level-short : seen < n → rest ≡ Inspecting.Fault l x
+      level-short q = turn ∙ simp (r, ← ey, eq-eqb _ _ z, ← en, lt-ltb _ _ q)
+
+      pub level-whole : n ≤ seen → rest ≡ Inspecting.Sound
+      level-whole q = turn ∙ simp (r, ← ey, eq-eqb _ _ z, ← en, le-ltb _ _ q)
+
+    module _ (nz : y ≡ 0 → ⊥) (d : Bool) (ed : d ≡ linkFault m l x y) where
+      pub link-stops : d ≡ true → rest ≡ Inspecting.Fault l x
+      link-stops g = turn ∙ simp (r, ← ey, ne-eqb _ _ nz, ← ed, g)
+
+      pub level-goes : d ≡ false → Onward y
+      level-goes g =
+          let out = ltb (m .counts .nodes) y || leb (key (m .nodes) y) (key (m .nodes) x) in
+          let a = or-false out (ltb (top (m .nodes) y) l) (sym ed ∙ g) in
+          let b = or-false (ltb (m .counts .nodes) y) (leb (key (m .nodes) y) (key (m .nodes) x)) (a .0) in
+          let used = ltb-false (m .counts .nodes) y (b .0) in
+          let nears = fewer-ahead m l x y nz (used, λ _. ltb-false _ _ (a .1)) (leb-false _ _ (b .1)) in
+          let same = level-fuel m l (ahead m l x) (suc (ahead m l y)) (seen + 1) y (omega arith) (omega arith) in
+          record { used = used; nears = nears; goes = turn ∙ simp (r, ← ey, ne-eqb _ _ nz, ← ed, g) same }
 
 -- ---- the levels
 

@@ -1,2 +1,4 @@
 pub mod ChainTurns
 pub mod LevelTurns
+pub mod OnePass
+pub mod TopTurns

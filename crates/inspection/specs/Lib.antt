@@ -1,1 +1,3 @@
 pub mod Faults
+pub mod OnePass
+pub mod Tops

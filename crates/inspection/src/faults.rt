@@ -2,31 +2,59 @@
 ghost use mathlib.Core.Path.{_≡_};
 ghost use mathlib.Core.List.{List};
 ghost use Prim.Native.Nat.{ℕ};
-ghost use Rattle.model.specs.Inspection.{reaching};
-ghost use Rattle.tables.specs.Room.{NodeRoom, LevelRoom, memory, Lent, nodesIn};
-ghost use Rattle.inspection.specs.Faults.{nodeFault, linkFault};
-use crate::chain::chain_sound;
+ghost use Rattle.tables.specs.Room.{NodeRoom, LevelRoom, VersionRoom, memory, nodesIn};
+ghost use Rattle.inspection.specs.Faults.{hasVersions, chainStart, nodeFault, versionFault, linkFault};
 use model::types::Counts;
 use tables::nodes::key_at;
 use tables::nodes::lock_at;
+use tables::nodes::newest_at;
 use tables::nodes::top_at;
+use values::bounds::within;
+use versiontable::versions::timestamp_at;
 
-// A fault of the node reached: its lock is held, or at level 0 its versions are not sound (the head has none).
-pub fn node_fault(counts: Counts, nodes: &[u32], versions: &[u32], level: u32, node: u32) -> bool
-    requires { ⌜ Lent (now nodes) (now versions) counts ⌝ }
+// Whether the chain of a node is followed: on level 0 alone, and the head has none.
+fn has_versions(level: u32, node: u32) -> bool
+    ensures { λ r. ⌜ r ≡ hasVersions level node ⌝ }
+{
+    (level == 0) & (node != 0)
+}
+
+// The newest version of a node whose chain is followed, or 0.
+pub fn chain_start(nodes: &[u32], level: u32, node: u32) -> u32
+    requires { ⌜ NodeRoom (now nodes) node ⌝ }
+    ensures { λ r. ⌜ r ≡ chainStart (now (nodes .entry)) level node ⌝ }
+{
+    if has_versions(level, node) {
+        newest_at(nodes, node)
+    } else {
+        0
+    }
+}
+
+// A fault of the node reached: its lock is held, or the chain to follow begins at no version in use.
+pub fn node_fault(counts: Counts, nodes: &[u32], level: u32, node: u32) -> bool
     requires { ⌜ LevelRoom (now nodes) level node ⌝ }
-    ensures { λ r. ⌜ r ≡ nodeFault (memory (now (nodes .entry)) (now (versions .entry)) counts) level node ⌝ }
+    ensures { λ r. ⌜ ((versions : List ℕ) → r ≡ nodeFault (memory (now (nodes .entry)) versions counts) level node) ⌝ }
 {
     if lock_at(nodes, level, node) != 0 {
         return true;
     }
-    if 0 < level {
+    let newest = newest_at(nodes, node);
+    has_versions(level, node) & !within(1, counts.versions, newest)
+}
+
+// A fault of a version and the one before it, if there is one: its index is not smaller, or its timestamp greater.
+pub fn version_fault(versions: &[u32], version: u32, prev: u32) -> bool
+    requires { ⌜ VersionRoom (now versions) version ⌝ }
+    ensures { λ r. ⌜ r ≡ versionFault (now (versions .entry)) version prev ⌝ }
+{
+    if prev == 0 {
         return false;
     }
-    if node == 0 {
-        return false;
+    if version <= prev {
+        return true;
     }
-    !chain_sound(counts, nodes, versions, node)
+    timestamp_at(versions, version) < timestamp_at(versions, prev)
 }
 
 // A fault of its link: the next node is not in use, its key not greater, or its top below the level.
@@ -42,20 +70,4 @@ pub fn link_fault(nodes: &[u32], used: u32, level: u32, node: u32, next: u32) ->
         return true;
     }
     top_at(nodes, next) < level
-}
-
-// The count of nodes whose top reaches the level; `used` is the last node in use.
-pub fn reaching(nodes: &[u32], used: u32, level: u32) -> u32
-    requires { ⌜ NodeRoom (now nodes) used ⌝ }
-    ensures { λ r. ⌜ r ≡ reaching (now (nodes .entry)) level used ⌝ }
-{
-    let mut x = 0;
-    let mut count = 0;
-    while x < used {
-        x = x + 1;
-        if level <= top_at(nodes, x) {
-            count = count + 1;
-        }
-    }
-    count
 }

@@ -1,4 +1,4 @@
 // The inspection of an idle store: it changes nothing.
-mod chain;
 mod faults;
 pub mod inspect;
+mod tops;
