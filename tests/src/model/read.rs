@@ -1,6 +1,7 @@
 //! The calls that change nothing: look, inspect, status (document 01: standing).
 
 use super::*;
+use std::iter::successors;
 
 /// What an inspection finds.
 #[derive(Clone, Copy, Debug, PartialEq, Eq, Hash)]
@@ -77,20 +78,16 @@ impl Store {
         }
     }
 
-    /// Do places fall along a node's chain, and do timestamps not rise?
+    /// The chain is followed for places, then again for timestamps: the two passes of document 01, which request P2 holds
+    /// one pass to. The second follows only places that fall, so it stays among those in use and ends.
     fn sound_versions(&self, node: u32) -> bool {
-        let Ok(mut place) = self.newest_in_use(node) else { return false };
-        let mut timestamps = vec![self.version_word(place, TIMESTAMP)];
-        loop {
-            let prev = self.version_word(place, PREV);
-            if prev >= place {
-                return false;
-            }
-            if prev == 0 {
-                return timestamps.windows(2).all(|pair| pair[0] >= pair[1]);
-            }
-            place = prev;
-            timestamps.push(self.version_word(place, TIMESTAMP));
+        let Ok(newest) = self.newest_in_use(node) else { return false };
+        let prev = |place: u32| self.version_word(place, PREV);
+        let timestamp = |place: u32| self.version_word(place, TIMESTAMP);
+        let chain = || successors(Some(newest), |&place| Some(prev(place)).filter(|&prev| prev != 0));
+        if !chain().all(|place| prev(place) < place) {
+            return false;
         }
+        chain().all(|place| prev(place) == 0 || timestamp(prev(place)) <= timestamp(place))
     }
 }
