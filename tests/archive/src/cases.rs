@@ -2,8 +2,10 @@
 
 mod alter;
 mod arguments;
+mod chains;
 
 pub use arguments::{operation, Asked};
+pub use chains::chains;
 
 use crate::words::*;
 use alter::*;

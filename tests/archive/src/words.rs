@@ -21,12 +21,16 @@ pub const PRED: usize = 11;
 pub const EFFECT: usize = 14;
 const PRED_OF_LEVEL_0: usize = 15;
 // The halves of a key, low and high, in a process (its call's own and a scan's last) and in a node; a node's links and
-// the place of its newest version.
+// locks, each from level 0 on, and the place of its newest version.
 pub const KEY_OF_PROCESS: [usize; 2] = [1, 2];
 pub const LAST_OF_PROCESS: [usize; 2] = [3, 4];
 pub const KEY_OF_NODE: [usize; 2] = [0, 3];
-const NEXT: usize = 4;
+pub const NEXT: usize = 4;
+pub const LOCK: usize = 10;
 pub const NEWEST: usize = 1;
+// Words of a version.
+pub const TIMESTAMP: usize = 1;
+pub const PREV: usize = 2;
 
 #[derive(Clone, Copy, Debug, PartialEq, Eq)]
 pub enum Part {
@@ -97,10 +101,27 @@ impl Words {
         self.node_word(node, NEXT + level.min(5) as usize)
     }
 
-    /// Sets the place of a node's newest version, if the table has such a node.
-    pub fn set_newest(&mut self, node: u32, place: u32) {
-        if let Some(word) = self.part_mut(Part::Nodes).get_mut(node as usize * 16 + NEWEST) {
-            *word = place;
+    /// Sets a word of a node, if the table has such a node.
+    pub fn set_node_word(&mut self, node: u32, word: usize, to: u32) {
+        if let Some(word) = self.part_mut(Part::Nodes).get_mut(node as usize * 16 + word) {
+            *word = to;
+        }
+    }
+
+    /// The first place behind the reading table.
+    pub fn room(&self) -> u32 {
+        self.part(Part::Versions).len() as u32 / 3
+    }
+
+    /// A word of the version at a place, 0 where the table has no such place.
+    pub fn version_word(&self, place: u32, word: usize) -> u32 {
+        self.part(Part::Versions).get(place as usize * 3 + word).copied().unwrap_or(0)
+    }
+
+    /// Sets a word of the version at a place, if the table has such a place.
+    pub fn set_version_word(&mut self, place: u32, word: usize, to: u32) {
+        if let Some(word) = self.part_mut(Part::Versions).get_mut(place as usize * 3 + word) {
+            *word = to;
         }
     }
 

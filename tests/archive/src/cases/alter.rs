@@ -122,7 +122,7 @@ pub fn let_follow(random: &mut Random, words: &mut Words, process: u32) {
     let pred = random.below(nodes);
     if random.once_in(4) {
         let lost = random.pick(&[0, words.state_word(8).saturating_add(1)]);
-        words.set_newest(words.next(pred, 0), lost);
+        words.set_node_word(words.next(pred, 0), NEWEST, lost);
     }
     let level = if random.once_in(2) { 0 } else { random.below(6) };
     let call = &mut words.part_mut(Part::State)[words_of(process as usize)];
