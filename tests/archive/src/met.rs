@@ -1,11 +1,13 @@
 //! What the calls met: every refusal that the documents allow a call, with its causes where they are told apart, and
 //! every kind of answer. A run that leaves one out has shown too little.
 
+mod chains;
 mod keys;
 mod scans;
 
 use crate::expected::{unknown_beside, Flaw, Outcome};
 use crate::words::{Part, Words, PHASE};
+use chains::chain_kinds;
 use keys::key_kinds;
 use scans::scan_kinds;
 use std::collections::{BTreeMap, BTreeSet};
@@ -145,6 +147,7 @@ fn possible() -> BTreeSet<String> {
     }
     kinds.extend(keys::possible());
     kinds.extend(scans::possible());
+    kinds.extend(chains::possible());
     kinds
 }
 
@@ -181,6 +184,7 @@ impl Met {
         self.add(kind(before.phase(), words, operation, outcome));
         key_kinds(before, words, operation, outcome).into_iter().for_each(|kind| self.add(kind));
         scan_kinds(plan, before, operation, outcome).into_iter().for_each(|kind| self.add(kind));
+        chain_kinds(words, operation, outcome).into_iter().for_each(|kind| self.add(kind));
         if number != 10 && unknown_beside(words.state(), operation) {
             self.add(format!("{} {number} beside unknown numbers", name(operation)));
         }
@@ -224,6 +228,7 @@ impl fmt::Display for Met {
             }
             writeln!(f)?;
         }
+        writeln!(f, "inspections that a chain decides: {}", chains::told(&self.kinds))?;
         write!(f, "{} of {} kinds met", self.kinds.len() - self.missing().len(), self.kinds.len())
     }
 }
