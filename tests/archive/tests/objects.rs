@@ -2,12 +2,13 @@
 
 mod twin;
 
+use archive_tests::cases;
 use archive_tests::expected::perform;
 use archive_tests::fence::Side;
 use archive_tests::history::history;
 use archive_tests::interface::Interface;
 use archive_tests::met::Met;
-use archive_tests::run::{Failure, Run, ENOUGH};
+use archive_tests::run::{Failure, Run, ENOUGH, ROUND};
 use archive_tests::subject::Subject;
 use archive_tests::words::{Part, Words};
 use archive_tests::{sizes, unknown, watch};
@@ -15,6 +16,7 @@ use std::process::Command;
 use store_tests::broken;
 use store_tests::damage::{case, Operation};
 use store_tests::generate::live_store;
+use twin::chains::Pass;
 use twin::{Slip, SLIP, TWIN};
 
 /// The first seeds with a twin that has this slip.
@@ -83,6 +85,30 @@ fn every_broken_model_is_told() {
         println!("{slip:?}: {}", failure.unwrap_or_else(|| panic!("{slip:?} is not seen")));
     }
     SLIP.set(Slip::None);
+}
+
+/// The plan of chains alone, as many of its seeds as a run that is enough has: what tells such a pass, if anything does.
+fn chains_with(pass: Pass) -> Option<Failure> {
+    SLIP.set(Slip::Pass(pass));
+    let mut run = Run::new(&TWIN);
+    let failure = (0..100).find_map(|seed| run.cases(cases::chains(seed)).err());
+    SLIP.set(Slip::None);
+    failure
+}
+
+#[test]
+fn every_pass_gone_wrong_is_told_by_the_plan_of_chains() {
+    for pass in Pass::WRONG {
+        println!("{pass:?}: {}", chains_with(pass).unwrap_or_else(|| panic!("{pass:?} is not seen")));
+    }
+}
+
+/// One pass that is right gives the answers of the model's two.
+#[test]
+fn one_pass_answers_as_two() {
+    assert!(chains_with(Pass::Right).is_none());
+    let (result, _) = run(Slip::Pass(Pass::Right), 10 * ROUND);
+    assert!(result.is_ok(), "{}", result.unwrap_err());
 }
 
 /// Each word of what is expected, flipped alone, is the one that the comparison tells.

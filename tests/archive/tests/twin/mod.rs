@@ -1,10 +1,13 @@
 //! The model behind the header's functions, on lent memory: right, or with one slip that the comparison has to tell.
 
+pub mod chains;
+
 use archive_tests::expected::{perform, unknown_beside, Outcome};
 use archive_tests::fence::{page_words, WIDE};
 use archive_tests::interface::Interface;
 use archive_tests::subject::answer_words;
 use archive_tests::words::*;
+use chains::Pass;
 use std::cell::Cell;
 use std::ptr::null_mut;
 use store_tests::broken::{self, Broken};
@@ -17,6 +20,8 @@ pub enum Slip {
     None,
     /// A start, a step, a look or an inspection of the model's own slips.
     Model(broken::Slip),
+    /// An inspection makes such a pass over each chain.
+    Pass(Pass),
     /// A step's answer has another word.
     Answer(usize),
     /// Refusal 10 is told as 11.
@@ -121,6 +126,9 @@ fn spoil(slip: Slip, before: &Words, words: &mut Words, operation: Operation, ou
         Slip::HalvesSwapped if number == 0 => swap_halves(words, operation, KEY_OF_PROCESS),
         Slip::LastSwapped if number == 0 => swap_halves(words, operation, LAST_OF_PROCESS),
         Slip::ShownSwapped if step && number == 0 && outcome.words[1] == 3 => outcome.words.swap(3, 4),
+        Slip::Pass(pass) if operation == Operation::Inspect && number == 0 => {
+            outcome.words = chains::inspect(before, pass);
+        }
         Slip::RefusedOpenKeeps if (1..5).contains(&number) => words.clone_from(before),
         _ => {}
     }
