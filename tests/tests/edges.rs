@@ -142,7 +142,12 @@ fn interrupted_calls_are_made_again() {
     let shim = std::env::temp_dir().join(format!("interrupted-{}.so", std::process::id()));
     let source = concat!(env!("CARGO_MANIFEST_DIR"), "/tests/interrupted.c");
     let compiler = std::env::var("CC").unwrap_or("cc".to_string());
-    assert!(Command::new(compiler).args(["-shared", "-fPIC", "-o"]).args([shim.as_os_str(), source.as_ref()]).status().unwrap().success());
+    assert!(Command::new(compiler)
+        .args(["-shared", "-fPIC", "-o"])
+        .args([shim.as_os_str(), source.as_ref()])
+        .status()
+        .unwrap()
+        .success());
     let sheet = generate::long_sheet(5, 50_000);
     let lines = std::env::temp_dir().join(format!("interrupted-{}.out", std::process::id()));
     let mut command = Command::new(path);
