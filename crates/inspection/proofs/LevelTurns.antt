@@ -1,70 +1,19 @@
 -- One turn of the walk of a level, as the definition has it: its tests in the groups of the code, under a bound that is just enough
--- from the node reached. b, y, n and d are what the code found.
-use Prim.Native.Nat.{ℕ, zero, suc, _+_, _-_, _≤_, _<_}
-use mathlib.Core.Bool.{Bool, true, false, not, _&&_, _||_}
+-- from the node reached. y, n and d are what the code found.
+use Prim.Native.Nat.{ℕ, suc, _+_, _-_, _≤_, _<_}
+use mathlib.Core.Bool.{Bool, true, false, not, _||_}
 use mathlib.Core.Path.{_≡_, refl, sym, _∙_}
-use native.Mathlib.Numerals.{add-one}
 use native.Mathlib.Omega.{arith}
-use lib.Dec.{T, eqb, ltb, leb, leb→le}
+use lib.Dec.{eqb, ltb, leb}
 use borrow.Author.Tests.{eq-eqb, ne-eqb, lt-ltb, le-ltb, leb-false, ltb-false}
 use Rattle.model.specs.declared.types.Inspecting.{Inspecting}
 use Rattle.model.specs.Choice.{if_then_else_}
-use Rattle.model.specs.Layout.{Memory, topLevel, levels, key, newest, top, next, lock}
-use Rattle.model.specs.Phases.{usedVersion}
-use Rattle.model.specs.Inspection.{chainFalls, chainSound, versionsSound, reaching, levelFrom, thenInspect, levelsFrom}
-use Rattle.model.proofs.Tests.{T-true, and→}
+use Rattle.model.specs.Layout.{Memory, topLevel, levels, key, top, next, lock}
+use Rattle.model.specs.Inspection.{versionsSound, reaching, levelFrom, thenInspect, levelsFrom}
 use Rattle.model.proofs.LevelBound.{ahead, fewer-ahead, ahead-most, level-fuel}
-use Rattle.inspection.specs.Faults.{hasVersions, chainStart, nodeFault, linkFault}
-use Rattle.inspection.proofs.ChainTurns.{left, or-false}
-use Rattle.inspection.proofs.OnePass.{one-pass-sound}
-
--- ---- the versions of a node, looked at on level 0 alone
-
--- a lock held, or versions that are not sound
-abbrev pub wrong : Memory → (level x : ℕ) → Bool
-wrong m l x = not (eqb (lock (m .nodes) l x) 0) || not (versionsSound m l x)
-
-unused : (m : Memory) (x : ℕ) → usedVersion m (newest (m .nodes) x) ≡ false → chainSound m x ≡ false
-unfolding chainSound chainFalls
-unused m x h = rw add-one (simp h)
-
--- `pass` is what the pass along the chain answers, which is asked where the chain begins at a version in use
-answers : {A : Type 0} (held used chain : Bool) (fault sound pass : A)
-    → (used ≡ false → chain ≡ false) → (used ≡ true → pass ≡ (if chain then sound else fault))
-    → (if held || not chain then fault else sound) ≡ (if held || not used then fault else pass)
-answers true used chain fault sound pass f g = refl
-answers false false chain fault sound pass f g = simp (f refl)
-answers false true true fault sound pass f g = sym (g refl)
-answers false true false fault sound pass f g = sym (g refl)
-
--- the tests of a node, in document 01's order and in the code's
-node-answers : (m : Memory) (l x : ℕ) → (if wrong m l x then Inspecting.Fault l x else Inspecting.Sound)
-    ≡ (if nodeFault m l x then Inspecting.Fault l x else left m l x (chainStart (m .nodes) l x))
-unfolding versionsSound
-node-answers m zero zero = refl
-node-answers m zero (suc x) =
-    let i = newest (m .nodes) (suc x) in
-    simp (ne-eqb (suc x) 0 (omega arith))
-    (answers (not (eqb (lock (m .nodes) 0 (suc x)) 0)) (usedVersion m i) (chainSound m (suc x)) _ _ (left m 0 (suc x) i)
-    (unused m (suc x))
-    (λ u. let h = leb→le 1 i (and→ (leb 1 i) (leb i (m .counts .versions)) (T-true u) .0) in
-    simp (ne-eqb i 0 (omega arith)) (one-pass-sound m 0 (suc x))))
-node-answers m (suc l) x = simp (ne-eqb (suc l) 0 (omega arith))
-
-starts : (has used : Bool) (n k : ℕ) → has && not used ≡ false → (T used → n ≤ k) → (if has then n else 0) ≤ k
-starts true true n k h f = f tt
-starts true false n k h f = absurd (let z : _≡_ {A = ℕ} 0 1 = cc in omega arith)
-starts false used n k h f = omega arith
-
-tells-wrong : (l x : ℕ) (b : Bool) → (if b then Inspecting.Fault l x else Inspecting.Sound) ≡ Inspecting.Fault l x → b ≡ true
-tells-wrong l x true e = refl
-tells-wrong l x false e = absurd (let z : _≡_ {A = ℕ} 0 1 = cc in omega arith)
-
-tells-right : (l x : ℕ) (b : Bool) → (if b then Inspecting.Fault l x else Inspecting.Sound) ≡ Inspecting.Sound → b ≡ false
-tells-right l x true e = absurd (let z : _≡_ {A = ℕ} 0 1 = cc in omega arith)
-tells-right l x false e = refl
-
--- ---- the walk of a level
+use Rattle.inspection.specs.Faults.{linkFault}
+use Rattle.inspection.proofs.ChainTurns.{or-false}
+use Rattle.inspection.proofs.NodeTurns.{wrong}
 
 stops : {A : Type 0} (a b c d e f : Bool) (fault end on : A)
     → (if a then fault else if b then fault else if c then end else if d then fault else if e then fault else if f then fault else on)
@@ -100,23 +49,8 @@ module _ (m : Memory) (l seen x : ℕ) where
     pub nears : ahead m l y < ahead m l x
     pub goes : rest ≡ levelFrom m l (suc (ahead m l y)) (seen + 1) y
 
-  module _ (b : Bool) (eb : b ≡ nodeFault m l x) where
-    pub node-stops : b ≡ true → rest ≡ Inspecting.Fault l x
-    node-stops h = turn ∙ simp (tells-wrong l x (wrong m l x) (node-answers m l x ∙ simp (← eb, h)))
-
-    module _ (h : b ≡ false) where
-      pub chain-starts : chainStart (m .nodes) l x ≤ m .counts .versions
-      chain-starts =
-          let i = newest (m .nodes) x in
-          starts (hasVersions l x) (usedVersion m i) i (m .counts .versions)
-          (or-false (not (eqb (lock (m .nodes) l x) 0)) (hasVersions l x && not (usedVersion m i)) (sym eb ∙ h) .1)
-          λ u. leb→le i (m .counts .versions) (and→ (leb 1 i) (leb i (m .counts .versions)) u .1)
-
-      pub chain-stops : left m l x (chainStart (m .nodes) l x) ≡ Inspecting.Fault l x → rest ≡ Inspecting.Fault l x
-      chain-stops e = turn ∙ simp (tells-wrong l x (wrong m l x) (node-answers m l x ∙ simp (← eb, h) e))
-
-      pub node-right : left m l x (chainStart (m .nodes) l x) ≡ Inspecting.Sound → wrong m l x ≡ false
-      node-right e = tells-right l x (wrong m l x) (node-answers m l x ∙ simp (← eb, h) e)
+  pub node-stops : wrong m l x ≡ true → rest ≡ Inspecting.Fault l x
+  node-stops h = turn ∙ simp h
 
   module _ (r : wrong m l x ≡ false) (y : ℕ) (ey : y ≡ to) where
     module _ (z : y ≡ 0) (n : ℕ) (en : n ≡ reaching (m .nodes) l (m .counts .nodes)) where

@@ -1,4 +1,5 @@
 pub mod ChainTurns
 pub mod LevelTurns
+pub mod NodeTurns
 pub mod OnePass
 pub mod TopTurns

@@ -12,8 +12,9 @@ use borrow.Author.Tests.{eq-eqb, ne-eqb, le-leb, lt-leb, lt-ltb, le-ltb}
 use Rattle.model.specs.Choice.{if_then_else_}
 use Rattle.model.specs.Layout.{topLevel, levels, top}
 use Rattle.model.specs.Inspection.{reaching}
-use Rattle.model.proofs.Tests.{if-by, if-yes, if-no, if-lt, by-eq, by-le, eq→eqb, ne→neqb}
-use Rattle.inspection.specs.Tops.{highest, ending}
+use Rattle.model.proofs.Tests.{if-yes, if-no, if-lt, by-eq, by-le, eq→eqb, ne→neqb}
+use Rattle.model.proofs.Counting.{count}
+use Rattle.inspection.specs.Tops.{highest, topCount}
 
 pub reaching-all : (nodes : List ℕ) (n : ℕ) → reaching nodes 0 n ≡ n
 unfolding reaching
@@ -32,16 +33,10 @@ one-less l t h =
     (λ a. simp (lt-ltb t topLevel low, ne-eqb t l ne, le-leb l t a, le-leb (l + 1) t (omega arith)))
     λ b. simp (lt-ltb t topLevel low, ne-eqb t l ne, lt-leb l t b, lt-leb (l + 1) t (omega arith))
 
-pub reaching-less : (nodes : List ℕ) (l n : ℕ) → l < topLevel → reaching nodes l n ≡ ending nodes l n + reaching nodes (l + 1) n
-unfolding reaching ending
+pub reaching-less : (nodes : List ℕ) (l n : ℕ) → l < topLevel → reaching nodes l n ≡ topCount nodes l n + reaching nodes (l + 1) n
+unfolding reaching count
 reaching-less nodes l zero h = refl
 reaching-less nodes l (suc n) h = omega (arith, one-less l (top nodes (suc n)) h, reaching-less nodes l n h)
-
-pub ending-most : (nodes : List ℕ) (l n : ℕ) → ending nodes l n ≤ n
-unfolding ending
-ending-most nodes l zero = omega arith
-ending-most nodes l (suc n) = if-by (λ k. k + ending nodes l n ≤ suc n) (eqb (highest (top nodes (suc n))) l)
-    (λ _. omega (arith, ending-most nodes l n)) (λ _. omega (arith, ending-most nodes l n))
 
 pub highest-most : (t k : ℕ) → k ≡ highest t → k ≤ topLevel
 highest-most t k e = rw e (if-lt (λ k. k ≤ topLevel) t topLevel (λ h. omega arith) (λ h. omega arith))
@@ -49,27 +44,27 @@ highest-most t k e = rw e (if-lt (λ k. k ≤ topLevel) t topLevel (λ h. omega 
 -- ---- the counts of n nodes
 
 abbrev pub Counted : (nodes counts : List ℕ) → ℕ → Type 0
-Counted nodes counts n = (l : ℕ) → l ≤ topLevel → getD counts l 0 ≡ ending nodes l n
+Counted nodes counts n = (l : ℕ) → l ≤ topLevel → getD counts l 0 ≡ topCount nodes l n
 
 pub counted-none : (nodes : List ℕ) → Counted nodes (replicate levels 0) 0
-unfolding ending
+unfolding count
 counted-none nodes l h = getD-replicate levels l 0 0 (omega arith)
 
 -- one node more: t is its top, k the level where it ends
 module _ (nodes counts : List ℕ) (n t k : ℕ) (et : t ≡ top nodes (n + 1)) (ek : k ≡ highest t) (len : length counts ≡ levels) where
-  one-more : (l : ℕ) → ending nodes l (n + 1) ≡ (if eqb k l then 1 else 0) + ending nodes l n
-  unfolding ending
+  one-more : (l : ℕ) → topCount nodes l (n + 1) ≡ (if eqb k l then 1 else 0) + topCount nodes l n
+  unfolding count
   one-more l = rw (ek, et, add-one n)
 
   pub counted-more : Counted nodes counts n → Counted nodes (set counts k (getD counts k 0 + 1)) (n + 1)
   counted-more c l h = by-eq k l here there
     where
-      here : k ≡ l → getD (set counts k (getD counts k 0 + 1)) l 0 ≡ ending nodes l (n + 1)
+      here : k ≡ l → getD (set counts k (getD counts k 0 + 1)) l 0 ≡ topCount nodes l (n + 1)
       here e =
           let same = getD-set-same counts k (getD counts k 0 + 1) 0 (omega arith) in
           rw (← e) (omega (arith, same, c k (omega arith), one-more k, if-yes {A = ℕ} (eqb k k) 1 0 (eq→eqb k k refl)))
 
-      there : k ≢ l → getD (set counts k (getD counts k 0 + 1)) l 0 ≡ ending nodes l (n + 1)
+      there : k ≢ l → getD (set counts k (getD counts k 0 + 1)) l 0 ≡ topCount nodes l (n + 1)
       there ne = omega (
         arith,
         getD-set-other counts k l (getD counts k 0 + 1) 0 (λ e. ne (sym e)),

@@ -21,7 +21,7 @@ fn inspect_levels(counts: Counts, nodes: &[u32], versions: &[u32]) -> Inspecting
     requires { ⌜ Lent (now nodes) (now versions) counts ⌝ }
     ensures { λ r. ⌜ r ≡ inspection (memory (now (nodes .entry)) (now (versions .entry)) counts) ⌝ }
 {
-    let ending = count_tops(nodes, counts.nodes);
+    let tops = count_tops(nodes, counts.nodes);
     let mut due = counts.nodes;
     let mut level = 0;
     'levels: loop {
@@ -55,7 +55,7 @@ fn inspect_levels(counts: Counts, nodes: &[u32], versions: &[u32]) -> Inspecting
         if level == State::TOP {
             break 'levels Inspecting::Sound;
         }
-        due = due - ending[level as usize];
+        due = due - tops[level as usize];
         level = level + 1;
     }
 }

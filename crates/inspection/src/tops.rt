@@ -4,7 +4,7 @@ ghost use Prim.Native.Nat.{ℕ, _≤_};
 ghost use lib.ListN.{getD};
 ghost use Rattle.model.specs.Layout.{topLevel};
 ghost use Rattle.tables.specs.Room.{NodeRoom};
-ghost use Rattle.inspection.specs.Tops.{highest, ending};
+ghost use Rattle.inspection.specs.Tops.{highest, topCount};
 use model::types::State;
 use tables::nodes::top_at;
 
@@ -18,7 +18,7 @@ fn highest(top: u32) -> u32
 // For each level the count of nodes that reach it and none above it; `used` is the last node in use.
 pub fn count_tops(nodes: &[u32], used: u32) -> [u32; State::LEVELS]
     requires { ⌜ NodeRoom (now nodes) used ⌝ }
-    ensures { λ r. ⌜ ((l : ℕ) → l ≤ topLevel → getD r l 0 ≡ ending (now (nodes .entry)) l used) ⌝ }
+    ensures { λ r. ⌜ ((l : ℕ) → l ≤ topLevel → getD r l 0 ≡ topCount (now (nodes .entry)) l used) ⌝ }
 {
     let mut counts = [0; State::LEVELS];
     let mut x = 0;

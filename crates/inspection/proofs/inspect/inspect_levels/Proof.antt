@@ -13,37 +13,38 @@ use Rattle.model.proofs.LevelBound.{ahead, ahead-most}
 use Rattle.tables.specs.Room.{memory}
 use Rattle.inspection.specs.Faults.{chainStart, nodeFault}
 use Rattle.inspection.proofs.ChainTurns.{left, pass-ends, pass-stops, pass-goes}
-use Rattle.inspection.proofs.LevelTurns.{wrong, node-stops, chain-starts, chain-stops, node-right, link-stops}
-use Rattle.inspection.proofs.LevelTurns.{level-short, level-whole, Onward, level-goes, level-starts, levels-stop, levels-go, levels-end}
+use Rattle.inspection.proofs.LevelTurns.{node-stops, link-stops, level-short, level-whole, Onward, level-goes, level-starts}
+use Rattle.inspection.proofs.LevelTurns.{levels-stop, levels-go, levels-end}
+use Rattle.inspection.proofs.NodeTurns.{wrong, node-wrong, chain-starts, chain-wrong, chain-right}
 use Rattle.inspection.proofs.TopTurns.{reaching-all, reaching-less}
 use Rattle.inspection.proofs.inspect.inspect_levels.Statement.{statement}
 use Rattle.inspection.proofs.inspect.inspect_levels.Tie as tie
 
 abbrev Inv-chain : tie.InvT-chain
-Inv-chain counts nodes versions ending due level node seen version₀ version =
+Inv-chain counts nodes versions tops due level node seen version₀ version =
     let m = memory nodes versions counts in
     (version ≤ counts .versions) × (left m level node (chainStart nodes level node) ≡ left m level node version)
 
 abbrev μ-chain : tie.MeasureT-chain
-μ-chain counts nodes versions ending due level node seen version₀ version = version
+μ-chain counts nodes versions tops due level node seen version₀ version = version
 
 abbrev Inv-links : tie.InvT-links
-Inv-links counts nodes versions ending due level node₀ seen₀ node seen =
+Inv-links counts nodes versions tops due level node₀ seen₀ node seen =
     let m = memory nodes versions counts in
     (node ≤ counts .nodes)
     × (seen + ahead m level node ≤ counts .nodes)
     × (levelFrom m level (counts .nodes + 1) 0 0 ≡ levelFrom m level (suc (ahead m level node)) seen node)
 
 abbrev μ-links : tie.MeasureT-links
-μ-links counts nodes versions ending due level node₀ seen₀ node seen = ahead (memory nodes versions counts) level node
+μ-links counts nodes versions tops due level node₀ seen₀ node seen = ahead (memory nodes versions counts) level node
 
 abbrev Inv-levels : tie.InvT-levels
-Inv-levels counts nodes versions ending due₀ level₀ due level =
+Inv-levels counts nodes versions tops due₀ level₀ due level =
     let m = memory nodes versions counts in
     (level ≤ topLevel) × (due ≡ reaching nodes level (counts .nodes)) × (inspection m ≡ levelsFrom m (levels - level) level)
 
 abbrev μ-levels : tie.MeasureT-levels
-μ-levels counts nodes versions ending due₀ level₀ due level = levels - level
+μ-levels counts nodes versions tops due₀ level₀ due level = levels - level
 
 -- ---- at the head of the links loop
 
@@ -69,7 +70,11 @@ module _ (c : tie.At-links Inv-chain μ-chain Inv-links μ-links Inv-levels μ-l
   passes : Left Inspecting.Sound → inspection mem ≡ levelsFrom mem (levels - (lev + 1)) (lev + 1)
   passes e = let l = c .before .levels .inv in l .2 ∙ levels-go mem lev (l .0) (c .links .inv .2 ∙ e)
 
--- ---- at the head of the chain loop, at a node without a fault of its own
+-- ---- at a node without a fault of its own, and at the head of the loop along its chain
+
+module _ (c : tie.Else1 Inv-chain μ-chain Inv-links μ-links Inv-levels μ-levels) where
+  faultless : let n = c .before .before in nodeFault (mem n) (lev n) (node n) ≡ false
+  faultless = sym (c .before .node-fault .ensures (mem (c .before .before) .versions)) ∙ c .if1 .left
 
 module _ (c : tie.At-chain Inv-chain μ-chain Inv-links μ-links Inv-levels μ-levels) where
   abbrev at-node : tie.At-links Inv-chain μ-chain Inv-links μ-links Inv-levels μ-levels
@@ -79,13 +84,12 @@ module _ (c : tie.At-chain Inv-chain μ-chain Inv-links μ-links Inv-levels μ-l
   abbrev pass : ℕ → Inspecting
   pass i = left (mem at-node) (lev at-node) (node at-node) i
 
-  faultless : nodeFault (mem at-node) (lev at-node) (node at-node) ≡ false
-  faultless = sym (c .before .before .before .node-fault .ensures (mem at-node .versions)) ∙ c .before .before .if1 .left
-
   chain-stopped : pass (c .chain .version) ≡ Inspecting.Fault (lev at-node) (node at-node)
       → Inspecting.Fault (lev at-node) (node at-node) ≡ inspection (mem at-node)
   chain-stopped e =
-      stops at-node (chain-stops (mem at-node) (lev at-node) (at-node .links .seen) (node at-node) _ refl faultless (c .chain .inv .1 ∙ e))
+      let n = at-node in
+      let w = chain-wrong (mem n) (lev n) (node n) (faultless (c .before .before)) (c .chain .inv .1 ∙ e) in
+      stops n (node-stops (mem n) (lev n) (n .links .seen) (node n) w)
 
 -- ---- behind the tests of a turn
 
@@ -112,7 +116,7 @@ module _ (c : tie.After-next-at Inv-chain μ-chain Inv-links μ-links Inv-levels
   right : wrong (mem here) (lev here) (node here) ≡ false
   right =
       let ends = pass-ends (mem here) (lev here) (node here) (chain-end .chain .version) (omega arith) in
-      node-right (mem here) (lev here) (here .links .seen) (node here) _ refl (faultless chain-end) (chain-end .chain .inv .1 ∙ ends)
+      chain-right (mem here) (lev here) (node here) (faultless (chain-end .before .before)) (chain-end .chain .inv .1 ∙ ends)
 
 -- a link that is followed
 module _ (c : tie.Else4 Inv-chain μ-chain Inv-links μ-links Inv-levels μ-levels) where
@@ -149,8 +153,8 @@ module _ (c : tie.Else6 Inv-chain μ-chain Inv-links μ-links Inv-levels μ-leve
   fewer =
       let n = below in
       let l = n .before .levels .inv in
-      let ending = n .before .before .count-tops .ensures (lev n) (l .0) in
-      omega (arith, l .1, ending, reaching-less (mem n .nodes) (lev n) (mem n .counts .nodes) rises)
+      let counted = n .before .before .count-tops .ensures (lev n) (l .0) in
+      omega (arith, l .1, counted, reaching-less (mem n .nodes) (lev n) (mem n .counts .nodes) rises)
 
 count-tops-requires : tie.Need-count-tops-requires Inv-chain μ-chain Inv-links μ-links Inv-levels μ-levels
 count-tops-requires c κs = search needs
@@ -176,11 +180,8 @@ chain-start-requires c κs = search needs
 
 chain-holds : tie.Need-chain-holds Inv-chain μ-chain Inv-links μ-links Inv-levels μ-levels
 chain-holds c =
-    let k = c .before .before .before in (
-      rw (c .chain-start .ensures) (chain-starts (mem k) (lev k) (k .links .seen) (node k)
-          _ (c .before .before .node-fault .ensures (mem k .versions)) (c .before .if1 .left)),
-      rw (c .chain-start .ensures),
-    )
+    let n = c .before .before .before in
+    (rw (c .chain-start .ensures) (chain-starts (mem n) (lev n) (node n) (faultless (c .before))), rw (c .chain-start .ensures))
 
 prev-at-requires : tie.Need-prev-at-requires Inv-chain μ-chain Inv-links μ-links Inv-levels μ-levels
 prev-at-requires c κs = search needs
@@ -233,7 +234,8 @@ levels-again c = (omega (arith, rises c), omega (arith, fewer c), whole (c .befo
 returns : tie.Need-returns Inv-chain μ-chain Inv-links μ-links Inv-levels μ-levels
 returns c =
     let k = c .before .before in
-    stops k (node-stops (mem k) (lev k) (k .links .seen) (node k) _ (c .before .node-fault .ensures (mem k .versions)) (c .if1 .taken))
+    let w = node-wrong (mem k) (lev k) (node k) (sym (c .before .node-fault .ensures (mem k .versions)) ∙ c .if1 .taken) in
+    stops k (node-stops (mem k) (lev k) (k .links .seen) (node k) w)
 
 returns-2 : tie.Need-returns-2 Inv-chain μ-chain Inv-links μ-links Inv-levels μ-levels
 returns-2 c =

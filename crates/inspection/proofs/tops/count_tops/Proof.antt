@@ -4,8 +4,11 @@ use mathlib.Core.Path.{_≡_, refl, _∙_}
 use native.Mathlib.Omega.{arith}
 use borrow.Author.Needs.{needs}
 use lib.ListN.{length, length-set}
-use Rattle.model.specs.Layout.{topLevel, levels}
-use Rattle.inspection.proofs.TopTurns.{Counted, counted-none, counted-more, ending-most, highest-most}
+use lib.Dec.{eqb}
+use Rattle.model.specs.Layout.{topLevel, levels, top}
+use Rattle.model.proofs.Counting.{count-most}
+use Rattle.inspection.specs.Tops.{highest}
+use Rattle.inspection.proofs.TopTurns.{Counted, counted-none, counted-more, highest-most}
 use Rattle.inspection.proofs.tops.count_tops.Statement.{statement}
 use Rattle.inspection.proofs.tops.count_tops.Tie as tie
 
@@ -45,7 +48,7 @@ add-counts : tie.Need-add-counts Inv-loop μ-loop
 add-counts c =
     let a = c .before .before .before .before .before .args in
     let l = c .before .before .before .loop in
-    omega (arith, l .inv .2 (c .highest .result) (within c), ending-most (a .nodes .now) (c .highest .result) (l .x))
+    omega (arith, l .inv .2 (c .highest .result) (within c), count-most (λ x. eqb (highest (top (a .nodes .now) x)) (c .highest .result)) (l .x))
 
 mul-counts-2 : tie.Need-mul-counts-2 Inv-loop μ-loop
 mul-counts-2 c = omega (arith, within c)
