@@ -38,6 +38,8 @@ pub struct Run<'a> {
     /// The plan of this seed, and its calls so far.
     plan: usize,
     call: u64,
+    /// The one plan that is run, if not all are.
+    only: Option<usize>,
 }
 
 /// So many seeds in a row, from any on, should meet every kind of outcome.
@@ -70,7 +72,14 @@ impl<'a> Run<'a> {
             seed: 0,
             plan: 0,
             call: 0,
+            only: None,
         }
+    }
+
+    /// Seeds of other plans than this one will do nothing. None where there is no such plan.
+    pub fn keep_to(&mut self, plan: &str) -> Option<()> {
+        self.only = Some(PLANS.iter().position(|(name, ..)| *name == plan)?);
+        Some(())
     }
 
     /// Whole seeds from this one on, until so many calls are made. Gives the seed that would be next.
@@ -91,7 +100,9 @@ impl<'a> Run<'a> {
         for (number, (_, share, plan)) in PLANS.into_iter().enumerate() {
             if place < share {
                 self.plan = number;
-                plan(self, round * share + place)?;
+                if self.only.is_none_or(|only| only == number) {
+                    plan(self, round * share + place)?;
+                }
                 self.by_plan[number] += self.call;
                 return Ok(());
             }
