@@ -96,11 +96,12 @@ growth() {
 }
 
 count_growth() {
-    printf '\nGrowth with trays (four readings each), then with the readings of one tray:\n\n'
+    printf '\nGrowth with trays (four readings each, then one), then with the readings of one tray:\n\n'
     printf '| trays | readings | steps a get | archive a step | C | steps a put | archive a step | C |'
     printf ' archive an inspection | C |\n|--:|--:|--:|--:|--:|--:|--:|--:|--:|--:|\n'
     local trays readings
     for trays in 1 3 15 63 255 1023; do growth "$trays" $((trays == 1023 ? 4095 : 4 * trays)); done
+    growth 1023 1023
     for readings in 1 15 255 4095; do growth 1 "$readings"; done
 }
 

@@ -276,8 +276,8 @@ cases =
     fault (version 2 2 2) 0 1 ∷ fault (version 2 2 3) 0 1 ∷ sound (version 2 2 0) ∷ fault (version 1 2 1) 0 1 ∷
     -- "or an older reading with a greater stamp"
     fault (version 1 1 102) 0 1 ∷ sound (version 1 1 101) ∷
-    -- both: P2, "Every answer is the one the two passes give." A stamp nearer the newest than the place, then a place nearer
-    fault (λ w. version 1 1 102 (version 1 2 1 w)) 0 1 ∷ fault (λ w. version 1 1 102 (version 2 2 2 w)) 0 1 ∷
+    -- both, the stamp nearer the newest (P2: the pass for places comes first, and one pass meets the stamp)
+    fault (λ w. version 1 1 102 (version 1 2 1 w)) 0 1 ∷
     -- "its link not in use; the next tray number not greater"
     fault (node 0 4 2) 0 0 ∷ fault (node 0 6 2) 2 0 ∷
     fault (node 0 0 7) 0 0 ∷ sound (node 0 0 6) ∷ fault (node 1 4 1) 0 1 ∷

@@ -51,22 +51,22 @@ module _ (m : Memory) (l x : ℕ) where
 
   module _ (i : ℕ) (nz : i ≢ 0) (used : i ≤ m .counts .versions) (p : ℕ) (ep : p ≡ prev (m .versions) i) where
     -- the tests of a version in use, grouped as in the code: where none is before it, p is 0 and so smaller than i
-    turn : (fuel : ℕ) → onePass m l x (suc fuel) i
+    pass-turn : (fuel : ℕ) → onePass m l x (suc fuel) i
         ≡ (if versionFault (m .versions) i p then Inspecting.Fault l x else if eqb p 0 then Inspecting.Sound else onePass m l x fuel p)
     unfolding onePass
-    turn fuel = simp (le-leb 1 i (omega arith), le-leb i (m .counts .versions) used, ← ep)
+    pass-turn fuel = simp (le-leb 1 i (omega arith), le-leb i (m .counts .versions) used, ← ep)
         (grouped (leb i p) (eqb p 0) (ltb (timestamp (m .versions) i) (timestamp (m .versions) p)) _ _ _
         λ r z. let a = leb→le i p r in let c = eqb→eq p 0 z in omega arith)
 
     module _ (b : Bool) (eb : b ≡ versionFault (m .versions) i p) where
       pub pass-stops : b ≡ true → left i ≡ Inspecting.Fault l x
-      pass-stops h = simp (ne-eqb i 0 nz) (rw add-one (turn (m .counts .versions) ∙ simp (← eb, h)))
+      pass-stops h = simp (ne-eqb i 0 nz) (rw add-one (pass-turn (m .counts .versions) ∙ simp (← eb, h)))
 
       pub pass-goes : b ≡ false → (p < i) × (left i ≡ left p)
       pass-goes h = (
         by-eq p 0 (λ z. omega arith) λ ne.
             let e = simp (ne-eqb p 0 ne) at (sym eb ∙ h) in
             leb-false i p (or-false (leb i p) (ltb (timestamp (m .versions) i) (timestamp (m .versions) p)) e .0),
-        simp (ne-eqb i 0 nz) (rw add-one (turn (m .counts .versions) ∙ simp (← eb, h)
+        simp (ne-eqb i 0 nz) (rw add-one (pass-turn (m .counts .versions) ∙ simp (← eb, h)
             (if-same (eqb p 0) _ λ ne. pass-fuel (m .counts .versions) (suc (m .counts .versions)) p (omega arith) (omega arith)))),
       )

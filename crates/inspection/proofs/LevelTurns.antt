@@ -36,10 +36,10 @@ module _ (m : Memory) (l seen x : ℕ) where
   abbrev last : Inspecting
   last = if ltb seen (reaching (m .nodes) l (m .counts .nodes)) then Inspecting.Fault l x else Inspecting.Sound
 
-  turn : rest ≡ (if wrong m l x then Inspecting.Fault l x else if eqb to 0 then last
+  level-turn : rest ≡ (if wrong m l x then Inspecting.Fault l x else if eqb to 0 then last
       else if linkFault m l x to then Inspecting.Fault l x else levelFrom m l (ahead m l x) (seen + 1) to)
   unfolding levelFrom
-  turn =
+  level-turn =
       stops (not (eqb (lock (m .nodes) l x) 0)) (not (versionsSound m l x)) (eqb to 0)
       (ltb (m .counts .nodes) to) (leb (key (m .nodes) to) (key (m .nodes) x)) (ltb (top (m .nodes) to) l) _ _ _
 
@@ -50,19 +50,19 @@ module _ (m : Memory) (l seen x : ℕ) where
     pub goes : rest ≡ levelFrom m l (suc (ahead m l y)) (seen + 1) y
 
   pub node-stops : wrong m l x ≡ true → rest ≡ Inspecting.Fault l x
-  node-stops h = turn ∙ simp h
+  node-stops h = level-turn ∙ simp h
 
   module _ (r : wrong m l x ≡ false) (y : ℕ) (ey : y ≡ to) where
     module _ (z : y ≡ 0) (n : ℕ) (en : n ≡ reaching (m .nodes) l (m .counts .nodes)) where
       pub level-short : seen < n → rest ≡ Inspecting.Fault l x
-      level-short q = turn ∙ simp (r, ← ey, eq-eqb _ _ z, ← en, lt-ltb _ _ q)
+      level-short q = level-turn ∙ simp (r, ← ey, eq-eqb _ _ z, ← en, lt-ltb _ _ q)
 
       pub level-whole : n ≤ seen → rest ≡ Inspecting.Sound
-      level-whole q = turn ∙ simp (r, ← ey, eq-eqb _ _ z, ← en, le-ltb _ _ q)
+      level-whole q = level-turn ∙ simp (r, ← ey, eq-eqb _ _ z, ← en, le-ltb _ _ q)
 
     module _ (nz : y ≡ 0 → ⊥) (d : Bool) (ed : d ≡ linkFault m l x y) where
       pub link-stops : d ≡ true → rest ≡ Inspecting.Fault l x
-      link-stops g = turn ∙ simp (r, ← ey, ne-eqb _ _ nz, ← ed, g)
+      link-stops g = level-turn ∙ simp (r, ← ey, ne-eqb _ _ nz, ← ed, g)
 
       pub level-goes : d ≡ false → Onward y
       level-goes g =
@@ -72,7 +72,7 @@ module _ (m : Memory) (l seen x : ℕ) where
           let used = ltb-false (m .counts .nodes) y (b .0) in
           let nears = fewer-ahead m l x y nz (used, λ _. ltb-false _ _ (a .1)) (leb-false _ _ (b .1)) in
           let same = level-fuel m l (ahead m l x) (suc (ahead m l y)) (seen + 1) y (omega arith) (omega arith) in
-          record { used = used; nears = nears; goes = turn ∙ simp (r, ← ey, ne-eqb _ _ nz, ← ed, g) same }
+          record { used = used; nears = nears; goes = level-turn ∙ simp (r, ← ey, ne-eqb _ _ nz, ← ed, g) same }
 
 -- ---- the levels
 

@@ -17,8 +17,8 @@ twoPasses m l x fuel i =
     else if not (chainAges m fuel i) then Inspecting.Fault l x
     else Inspecting.Sound
 
--- each version with the one before it: its place, then its timestamp. So a timestamp that is wrong is met before a place that is wrong
--- further back, which the two passes meet first.
+-- at each version whether it is in use, then the place before it, then the timestamp there. So a timestamp that is wrong is met before a
+-- place that is wrong further back, which the two passes meet first.
 unfoldable pub onePass : Memory → (level x fuel i : ℕ) → Inspecting
 onePass m l x zero i = Inspecting.Sound
 onePass m l x (suc fuel) i =

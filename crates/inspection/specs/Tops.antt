@@ -1,15 +1,16 @@
--- The nodes in use counted by top level, once for all levels: fewer reach a level than the one below it, by those that end there.
-use Prim.Native.Nat.{ℕ}
+-- The nodes in use counted by top level, once for all levels: fewer reach a level than the one below it, by those whose top that is.
+use Prim.Native.Nat.{ℕ, _<_}
 use mathlib.Core.List.{List}
-use lib.Dec.{eqb, ltb}
-use Rattle.model.specs.Choice.{if_then_else_}
+use mathlib.Core.Path.{_≡_}
+use lib.Dec.{eqb}
+use lib.ListN.{getD}
 use Rattle.model.specs.Layout.{topLevel, top}
 use Rattle.model.proofs.Counting.{count}
 
--- the highest level that a node with this top reaches
-abbrev pub highest : (top : ℕ) → ℕ
-highest t = if ltb t topLevel then t else topLevel
-
--- the nodes 1 to n that reach this level and none above it
+-- the nodes 1 to n whose top is this level
 abbrev pub topCount : (nodes : List ℕ) (level n : ℕ) → ℕ
-topCount t l n = count (λ x. eqb (highest (top t x)) l) n
+topCount t l n = count (λ x. eqb (top t x) l) n
+
+-- these counts in a list, for each level that has one above it
+abbrev pub TopCounts : (nodes : List ℕ) (n : ℕ) (counts : List ℕ) → Type 0
+TopCounts t n counts = (l : ℕ) → l < topLevel → getD counts l 0 ≡ topCount t l n

@@ -54,6 +54,15 @@ fn bench() {
         let java = java.iter().find(|figure| figure.workload == workload);
         println!("{}", row(name, &figures, java));
     }
+    println!("{}", row("inspect-chain", &chain_figures(), None));
+}
+
+/// Inspections of a store that has one key with all versions: one long chain.
+fn chain_figures() -> Vec<Figure> {
+    let plan = Plan::new(1, VERSIONS, CALLS, INSPECTIONS, SPAN);
+    let mut field = field(&plan);
+    field.iter_mut().for_each(|named| _ = named.contestant.run(&plan, Workload::Fill));
+    measure::figures(&mut field, &plan, Workload::Inspect, REFERENCE)
 }
 
 fn row(name: &str, figures: &[Figure], java: Option<&java::Figure>) -> String {

@@ -153,8 +153,8 @@ module _ (c : tie.Else6 Inv-chain μ-chain Inv-links μ-links Inv-levels μ-leve
   fewer =
       let n = below in
       let l = n .before .levels .inv in
-      let counted = n .before .before .count-tops .ensures (lev n) (l .0) in
-      omega (arith, l .1, counted, reaching-less (mem n .nodes) (lev n) (mem n .counts .nodes) rises)
+      let counted = n .before .before .count-tops .ensures (lev n) rises in
+      omega (arith, l .1, counted, reaching-less (mem n .nodes) (lev n) (mem n .counts .nodes))
 
 count-tops-requires : tie.Need-count-tops-requires Inv-chain μ-chain Inv-links μ-links Inv-levels μ-levels
 count-tops-requires c κs = search needs
