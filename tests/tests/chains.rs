@@ -37,6 +37,14 @@ fn set_newest(store: &mut Store, node: usize, to: u32) {
     store.node_table[16 * node + 1] = to;
 }
 
+fn set_next(store: &mut Store, node: usize, level: usize, to: u32) {
+    store.node_table[16 * node + 4 + level] = to;
+}
+
+fn set_lock(store: &mut Store, node: usize, level: usize, to: u32) {
+    store.node_table[16 * node + 10 + level] = to;
+}
+
 fn inspected(changes: &[(&str, Verdict, Change)]) {
     for (name, due, change) in changes {
         let mut store = store();
@@ -114,8 +122,14 @@ fn the_first_of_several_is_reported() {
             set_newest(s, 2, 0);
             set(s, 1, TIMESTAMP, 99);
         }),
-        ("a chain, then a lock of a higher level", FAULT_1, |s| (s.node_table[15], s.node_table[17]) = (1, 0)),
-        ("a lock, then a chain", FAULT_2, |s| (s.node_table[32 + 10], s.node_table[17]) = (1, 0)),
+        ("a chain, then a lock of a higher level", FAULT_1, |s| {
+            set_newest(s, 1, 0);
+            set_lock(s, 0, 5, 1);
+        }),
+        ("a lock, then a chain", FAULT_2, |s| {
+            set_lock(s, 2, 0, 1);
+            set_newest(s, 1, 0);
+        }),
     ]);
 }
 
@@ -126,7 +140,10 @@ fn what_is_not_looked_at() {
         ("places not in use", SOUND, |s| s.version_table[3 * 7..].fill(u32::MAX)),
         ("values", SOUND, |s| (1..=6).for_each(|place| set(s, place, 0, u32::MAX))),
         // Node 3 is left out of level 0: the end comes early at node 1, whatever the chain of node 3 holds.
-        ("a chain that no link reaches", FAULT_1, |s| (s.node_table[32 + 4], s.node_table[49]) = (1, 0)),
+        ("a chain that no link reaches", FAULT_1, |s| {
+            set_next(s, 2, 0, 1);
+            set_newest(s, 3, 0);
+        }),
         ("what stands at a place not in use, though it would be in order", FAULT_1, |s| {
             set(s, 7, TIMESTAMP, 99);
             set(s, 7, PREV, 6);
