@@ -88,7 +88,7 @@ impl<'r, 'a> Story<'r, 'a> {
         let at = self.random.below(self.words.part(part).len() as u32) as usize;
         let to = match self.random.below(8) {
             0 => self.random.word(),
-            1 => self.words.state_word(7).wrapping_add(self.random.below(2)),
+            1 => self.words.state_word(NODES_MADE).wrapping_add(self.random.below(2)),
             2 => u32::MAX - self.random.below(2),
             _ => self.random.below(7),
         };
@@ -102,8 +102,8 @@ impl<'r, 'a> Story<'r, 'a> {
     fn repair(&mut self) {
         let node_words = self.words.part(Part::Nodes).len() as u32;
         let version_words = self.words.part(Part::Versions).len() as u32;
-        let nodes = self.words.state_word(7).min(node_words / 16 - 1);
-        let versions = self.words.state_word(8).min(version_words / 3 - 1);
+        let nodes = self.words.state_word(NODES_MADE).min(node_words / 16 - 1);
+        let versions = self.words.state_word(VERSIONS_HELD).min(version_words / 3 - 1);
         let head = [LAYOUT, 1, self.processes, MAX_LIMIT, 100, node_words, version_words, nodes, versions];
         head.iter().enumerate().for_each(|(at, &to)| self.set(Part::State, at, to));
         for process in 0..8 {
@@ -141,7 +141,7 @@ impl<'r, 'a> Story<'r, 'a> {
         for process in 0..9 {
             self.call(Operation::Status { process })?;
         }
-        for node in 1..=self.words.state_word(7).min(20) {
+        for node in 1..=self.words.state_word(NODES_MADE).min(20) {
             let key = self.words.node_key(node);
             for back in [0, 1, 5, 4_094, u32::MAX] {
                 self.call(Operation::Look { key, back })?;
@@ -183,7 +183,7 @@ pub fn fill(run: &mut Run, seed: u64) -> Result<(), Failure> {
             let call = row.put(&mut story.random, puts);
             story.call(Operation::Start { process, call })?;
             puts += 1;
-            too_many += u32::from(story.words.state_word(8) == versions);
+            too_many += u32::from(story.words.state_word(VERSIONS_HELD) == versions);
         }
     }
     story.finish()?;

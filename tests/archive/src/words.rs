@@ -8,6 +8,9 @@ pub const LAYOUT: u32 = 3;
 pub const STATE: usize = 1 + STATE_WORDS;
 /// Words before the first process.
 pub const HEAD: usize = 9;
+// Two of them: the counts of trays made and of readings held.
+pub const NODES_MADE: usize = 7;
+pub const VERSIONS_HELD: usize = 8;
 pub const PROCESS: usize = 15 + LEVELS;
 // Words of a process that are numbers of an enum, each with its greatest number.
 pub const KIND: usize = 0;

@@ -48,7 +48,7 @@ const EDGES: [u32; 40] = [
     u32::MAX,
 ];
 /// Words of the head whose numbers, with their neighbours, are edges too: limit, events, lengths, counts.
-const OWN: [usize; 6] = [3, 4, 5, 6, 7, 8];
+const OWN: [usize; 6] = [3, 4, 5, 6, NODES_MADE, VERSIONS_HELD];
 
 /// In turn each number at an edge.
 pub fn edge(turn: u64, words: &Words) -> u32 {
@@ -90,7 +90,8 @@ pub fn alter_table(random: &mut Random, words: &mut Words) {
     if random.once_in(6) {
         return alter_key(random, words);
     }
-    let (part, count, record) = random.pick(&[(Part::Nodes, 7, 16), (Part::Nodes, 7, 16), (Part::Versions, 8, 3)]);
+    let (nodes, versions) = ((Part::Nodes, NODES_MADE, 16), (Part::Versions, VERSIONS_HELD, 3));
+    let (part, count, record) = random.pick(&[nodes, nodes, versions]);
     let used = words.state_word(count).saturating_add(1).saturating_mul(record);
     let at = random.below(used.min(words.part(part).len() as u32)) as usize;
     let to = match random.below(4) {
@@ -103,7 +104,7 @@ pub fn alter_table(random: &mut Random, words: &mut Words) {
 
 /// One half of the key of a node in use, set to that of another node or to a number at an edge.
 fn alter_key(random: &mut Random, words: &mut Words) {
-    let nodes = words.state_word(7).saturating_add(1).min(words.part(Part::Nodes).len() as u32 / 16);
+    let nodes = words.state_word(NODES_MADE).saturating_add(1).min(words.part(Part::Nodes).len() as u32 / 16);
     let (node, other) = (random.below(nodes), random.below(nodes));
     let half = random.pick(&KEY_OF_NODE);
     let to = if random.once_in(2) { words.node_word(other, half) } else { random.pick(&EDGES) };
@@ -113,7 +114,7 @@ fn alter_key(random: &mut Random, words: &mut Words) {
 /// Gives a process a scan that follows, from a node in use and over a span of keys of nodes or between them, mostly in
 /// order; at times the newest reading of the node ahead is lost.
 pub fn let_follow(random: &mut Random, words: &mut Words, process: u32) {
-    let nodes = words.state_word(7).saturating_add(1);
+    let nodes = words.state_word(NODES_MADE).saturating_add(1);
     let mut key = || words.node_key(random.below(nodes)).wrapping_add(u64::from(random.below(2)));
     let mut span = [key(), key()];
     if !random.once_in(4) {
@@ -121,7 +122,7 @@ pub fn let_follow(random: &mut Random, words: &mut Words, process: u32) {
     }
     let pred = random.below(nodes);
     if random.once_in(4) {
-        let lost = random.pick(&[0, words.state_word(8).saturating_add(1)]);
+        let lost = random.pick(&[0, words.state_word(VERSIONS_HELD).saturating_add(1)]);
         words.set_node_word(words.next(pred, 0), NEWEST, lost);
     }
     let level = if random.once_in(2) { 0 } else { random.below(6) };

@@ -19,7 +19,7 @@ pub fn chains(seed: u64) -> Vec<Case> {
     let mut random = Random::new(seed ^ 0xC4A1_2500);
     let lengths = lengths(&mut random, seed);
     let words = Words::of(store(&mut random, &lengths));
-    let chains: Vec<Vec<u32>> = (0..=words.state_word(7)).map(|node| chain(&words, node)).collect();
+    let chains: Vec<Vec<u32>> = (0..=words.state_word(NODES_MADE)).map(|node| chain(&words, node)).collect();
     let case = |number| {
         let mut damage = Damage { random: &mut random, chains: &chains, words: words.clone() };
         damage.alter(number);
@@ -123,7 +123,7 @@ impl Damage<'_> {
     }
 
     fn held(&self) -> u32 {
-        self.words.state_word(8)
+        self.words.state_word(VERSIONS_HELD)
     }
 
     fn timestamp(&self, place: u32) -> u32 {

@@ -2,7 +2,7 @@
 //! what chains in order may hold. Told from the words, each chain followed by code of its own.
 
 use crate::expected::Outcome;
-use crate::words::{Words, LOCK, NEWEST, PREV, TIMESTAMP};
+use crate::words::{Words, LOCK, NEWEST, NODES_MADE, PREV, TIMESTAMP, VERSIONS_HELD};
 use std::collections::BTreeMap;
 use std::iter::successors;
 use store_tests::damage::Operation;
@@ -77,7 +77,7 @@ struct Chain {
 
 impl Chain {
     fn of(words: &Words, node: u32) -> Chain {
-        Chain::from(words, words.node_word(node, NEWEST), words.state_word(8))
+        Chain::from(words, words.node_word(node, NEWEST), words.state_word(VERSIONS_HELD))
     }
 
     /// From this place on, if it is not above the last one.
@@ -110,16 +110,16 @@ fn path(words: &Words) -> Vec<u32> {
     let ahead = |&node: &u32| {
         let next = words.next(node, 0);
         let rises = words.node_key(next) > words.node_key(node);
-        (next != 0 && next <= words.state_word(7) && rises).then_some(next)
+        (next != 0 && next <= words.state_word(NODES_MADE) && rises).then_some(next)
     };
     successors(Some(0), ahead).collect()
 }
 
 /// What no chain comes to below a place: where a wrong previous place there is all that is wrong, what it has cut off.
 fn cut_off(words: &Words, place: u32) -> Chain {
-    let last = words.state_word(8);
+    let last = words.state_word(VERSIONS_HELD);
     let mut met = vec![false; last as usize + 1];
-    for node in 1..=words.state_word(7) {
+    for node in 1..=words.state_word(NODES_MADE) {
         Chain::of(words, node).places.iter().for_each(|&place| met[place as usize] = true);
     }
     let newest = (1..place).rev().find(|&place| !met[place as usize]);
@@ -137,7 +137,7 @@ pub fn chain_kinds(words: &Words, operation: Operation, outcome: &Outcome) -> Ve
 
 /// A chain counts where nothing else is wrong at its node: another fault there would give the same answer.
 fn fault_kinds(words: &Words, node: u32) -> Vec<String> {
-    let (path, nodes) = (path(words), words.state_word(7));
+    let (path, nodes) = (path(words), words.state_word(NODES_MADE));
     let Some(seen) = path.iter().position(|&met| met == node) else { return vec![] };
     let wrong = |&node: &u32| Chain::of(words, node).wrong();
     let own = path[1..=seen].last().and_then(wrong);
@@ -161,7 +161,7 @@ fn fault_kinds(words: &Words, node: u32) -> Vec<String> {
 }
 
 fn locked_above(words: &Words) -> bool {
-    (0..=words.state_word(7)).any(|node| (1..6).any(|level| words.node_word(node, LOCK + level) != 0))
+    (0..=words.state_word(NODES_MADE)).any(|node| (1..6).any(|level| words.node_word(node, LOCK + level) != 0))
 }
 
 /// The chain of this node decides. `alone`: no other on the way is wrong.
@@ -180,7 +180,7 @@ fn flaw(words: &Words, place: u32) -> &'static str {
     match place {
         0 => "0",
         _ if place >= words.room() => "beyond the table",
-        _ if place > words.state_word(8) => "not in use",
+        _ if place > words.state_word(VERSIONS_HELD) => "not in use",
         _ => "greater, in use",
     }
 }
@@ -243,7 +243,7 @@ fn stamp_kinds(words: &Words, chain: &Chain) -> Vec<String> {
 }
 
 fn sound_kinds(words: &Words) -> Vec<String> {
-    let chains: Vec<Chain> = (1..=words.state_word(7)).map(|node| Chain::of(words, node)).collect();
+    let chains: Vec<Chain> = (1..=words.state_word(NODES_MADE)).map(|node| Chain::of(words, node)).collect();
     let [stamp, prev] = [TIMESTAMP, PREV].map(|word| move |place: u32| words.version_word(place, word));
     let equal = |chain: &Chain| chain.places.windows(2).any(|pair| stamp(pair[0]) == stamp(pair[1]));
     let below_0 = |chain: &Chain| chain.places.last().is_some_and(|&oldest| stamp(oldest) < stamp(0));
@@ -256,7 +256,7 @@ fn sound_kinds(words: &Words) -> Vec<String> {
         chains.iter().any(Chain::is_longest),
         chains.iter().any(below_0),
         prev(0) != 0,
-        (words.state_word(8) + 1..words.room()).any(|place| stamp(place) != 0 || prev(place) != 0),
+        (words.state_word(VERSIONS_HELD) + 1..words.room()).any(|place| stamp(place) != 0 || prev(place) != 0),
     ];
     SOUND.iter().zip(holds).filter(|(_, holds)| *holds).map(|(what, _)| sound(what)).collect()
 }

@@ -2,7 +2,7 @@
 
 use super::{name, ANSWERS, DONE, ON, SHOWN};
 use crate::expected::Outcome;
-use crate::words::{Words, KEY_OF_PROCESS, LAST_OF_PROCESS, LEVEL, PHASE, PRED};
+use crate::words::{Words, KEY_OF_PROCESS, LAST_OF_PROCESS, LEVEL, NODES_MADE, PHASE, PRED};
 use std::cmp::Ordering;
 use store_tests::damage::Operation;
 use store_tests::model::{high_half, lawful_key, low_half, Call, Phase, FIRST_KEY, LAST_KEY};
@@ -110,12 +110,12 @@ fn inspected_by_high(words: &Words, outcome: &Outcome) -> Option<String> {
     let rises = |node: u32, level: u32| {
         let next = words.next(node, level);
         let (key, behind) = (words.node_key(node), words.node_key(next));
-        (next != 0 && next <= words.state_word(7)).then_some((key < behind, low_half(key) < low_half(behind)))
+        (next != 0 && next <= words.state_word(NODES_MADE)).then_some((key < behind, low_half(key) < low_half(behind)))
     };
     if fault == 1 {
         return (rises(node, level) == Some((false, true))).then(|| "inspect 0 fault by the high half".to_string());
     }
-    let mut nodes = 0..=words.state_word(7);
+    let mut nodes = 0..=words.state_word(NODES_MADE);
     let sound = nodes.any(|node| rises(node, 0) == Some((true, false)));
     sound.then(|| "inspect 0 sound by the high half".to_string())
 }

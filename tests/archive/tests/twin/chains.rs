@@ -77,10 +77,10 @@ pub fn inspect(words: &Words, pass: Pass) -> [u32; 9] {
 /// All chains made one and the same sound version, so that the model finds what else is wrong.
 fn without_chains(words: &Words) -> Words {
     let mut words = words.clone();
-    let held = words.state_word(8).max(1);
-    words.part_mut(Part::State)[8] = held;
+    let held = words.state_word(VERSIONS_HELD).max(1);
+    words.part_mut(Part::State)[VERSIONS_HELD] = held;
     words.set_version_word(1, PREV, 0);
-    (1..=words.state_word(7)).for_each(|node| words.set_node_word(node, NEWEST, 1));
+    (1..=words.state_word(NODES_MADE)).for_each(|node| words.set_node_word(node, NEWEST, 1));
     words
 }
 
@@ -102,7 +102,7 @@ fn first_fault(words: &Words, rest: [u32; 9], pass: Pass) -> Option<u32> {
 
 /// One pass over the chain of a node.
 fn sound(words: &Words, node: u32, pass: Pass) -> bool {
-    let held = words.state_word(8);
+    let held = words.state_word(VERSIONS_HELD);
     let timestamp = |place: u32| words.version_word(place, TIMESTAMP);
     let newest = words.node_word(node, NEWEST);
     if newest == 0 || (newest > held && pass != Pass::NewestNotTested) {
