@@ -20,8 +20,8 @@ pub enum Pass {
     EndsBefore4095,
     /// A previous place that is the version's own is accepted, and ends the chain.
     OwnAccepted,
-    /// The timestamp of a previous place is compared before the place is tested: that of place 0 too.
-    TimestampFirst,
+    /// The timestamp at place 0 is compared before 0 is found to be the end.
+    Place0Compared,
     /// The timestamp of a previous place that is not smaller decides; the chain ends there.
     TimestampAlone,
     /// No timestamp is compared.
@@ -48,7 +48,7 @@ impl Pass {
         Pass::EndsByCount,
         Pass::EndsBefore4095,
         Pass::OwnAccepted,
-        Pass::TimestampFirst,
+        Pass::Place0Compared,
         Pass::TimestampAlone,
         Pass::NoTimestamps,
         Pass::EqualRefused,
@@ -118,7 +118,7 @@ fn sound(words: &Words, node: u32, pass: Pass) -> bool {
             Pass::EqualRefused => timestamp(prev) >= timestamp(place),
             _ => timestamp(prev) > timestamp(place),
         };
-        if pass == Pass::TimestampFirst && rises {
+        if pass == Pass::Place0Compared && rises {
             return false;
         }
         let ends = match pass {
