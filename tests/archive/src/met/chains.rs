@@ -11,16 +11,17 @@ use store_tests::model::MAX_VERSIONS;
 const PLACES: &str = "places";
 const STAMPS: &str = "stamps";
 const BOTH: &str = "both";
-const PLACE_AT: [&str; 4] = ["in a single reading", "at the newest reading", "in the middle", "at the oldest reading"];
 const STAMP_AT: [&str; 4] = ["at the only pair", "at the first pair", "in the middle", "at the last pair"];
 const LONGEST: &str = "4095 readings";
 const NOT_IN_USE_BUT_IN_ORDER: &str = "newest place not in use, in order there";
+const AT_NEWEST: &str = "previous place wrong at the newest reading";
+const FURTHER_BACK: &str = "previous place wrong further back";
+const AT_PLACE_1: &str = "previous place wrong at place 1";
+const BEHIND_LONGEST: &str = "previous place wrong behind 4095 readings";
 const NOT_ABOVE_NEWEST: &str = "stamp greater, not above the newest";
-const STAMP_NEARER: &str = "both, the stamp nearer the newest";
-const PLACE_NEARER: &str = "both, the place nearer the newest";
 const LOCK_UNSEEN: &str = "a lock of a higher level unseen";
 /// Faults that a chain decides; [`possible`] has more.
-const FAULTS: [&str; 19] = [
+const FAULTS: [&str; 21] = [
     PLACES,
     STAMPS,
     BOTH,
@@ -34,11 +35,13 @@ const FAULTS: [&str; 19] = [
     "previous place not in use, with a greater stamp",
     "previous place not in use, without",
     "previous place beyond the table",
+    AT_NEWEST,
+    FURTHER_BACK,
+    AT_PLACE_1,
+    BEHIND_LONGEST,
     "stamp greater by one",
     "stamp greater by more",
     NOT_ABOVE_NEWEST,
-    STAMP_NEARER,
-    PLACE_NEARER,
     LOCK_UNSEEN,
 ];
 const BEHIND_LOCK: &str = "behind a lock";
@@ -115,17 +118,6 @@ fn path(words: &Words) -> Vec<u32> {
     successors(Some(0), ahead).collect()
 }
 
-/// What no chain comes to below a place: where a wrong previous place there is all that is wrong, what it has cut off.
-fn cut_off(words: &Words, place: u32) -> Chain {
-    let last = words.state_word(VERSIONS_HELD);
-    let mut met = vec![false; last as usize + 1];
-    for node in 1..=words.state_word(NODES_MADE) {
-        Chain::of(words, node).places.iter().for_each(|&place| met[place as usize] = true);
-    }
-    let newest = (1..place).rev().find(|&place| !met[place as usize]);
-    Chain::from(words, newest.unwrap_or(0), last)
-}
-
 pub fn chain_kinds(words: &Words, operation: Operation, outcome: &Outcome) -> Vec<String> {
     let [number, at_fault, level, node, ..] = outcome.words;
     match (operation, number, at_fault, level) {
@@ -147,10 +139,9 @@ fn fault_kinds(words: &Words, node: u32) -> Vec<String> {
     match own {
         _ if words.node_word(node, LOCK) != 0 => behind.map(|_| unseen(BEHIND_LOCK)).into_iter().collect(),
         Some(what) if !link_wrong => {
-            let behind = behind.map(|other| unseen(&format!("{other} behind {what}")));
+            let hidden = behind.map(|other| unseen(&format!("{other} behind {what}")));
             let locked = locked_above(words).then(|| fault(LOCK_UNSEEN));
-            let decided = decided(words, node, behind.is_none());
-            behind.into_iter().chain(locked).chain(decided).collect()
+            hidden.into_iter().chain(locked).chain(decided(words, node)).collect()
         }
         None if ends => {
             let unreached = (1..=nodes).filter(|node| !path.contains(node)).find_map(|node| wrong(&node));
@@ -164,13 +155,14 @@ fn locked_above(words: &Words) -> bool {
     (0..=words.state_word(NODES_MADE)).any(|node| (1..6).any(|level| words.node_word(node, LOCK + level) != 0))
 }
 
-/// The chain of this node decides. `alone`: no other on the way is wrong.
-fn decided(words: &Words, node: u32, alone: bool) -> Vec<String> {
+/// The chain of this node decides. Both are wrong where both lie on the way: behind a wrong place there is no chain.
+fn decided(words: &Words, node: u32) -> Vec<String> {
     let chain = Chain::of(words, node);
     let kinds = match chain.places.last() {
         None => newest_kinds(words, chain.end),
-        Some(&place) if chain.end != 0 => previous_kinds(words, &chain, place, alone),
-        _ => stamp_kinds(words, &chain),
+        Some(_) if chain.end != 0 && !chain.rises.is_empty() => vec![BOTH.to_string()],
+        Some(&last) if chain.end != 0 => previous_kinds(words, &chain, last),
+        Some(_) => stamp_kinds(words, &chain),
     };
     kinds.iter().map(|kind| fault(kind)).collect()
 }
@@ -187,41 +179,25 @@ fn flaw(words: &Words, place: u32) -> &'static str {
 
 fn newest_kinds(words: &Words, newest: u32) -> Vec<String> {
     let in_order = Chain::from(words, newest, words.room() - 1).wrong().is_none();
-    let in_order = in_order.then(|| NOT_IN_USE_BUT_IN_ORDER.to_string());
-    in_order.into_iter().chain([PLACES.to_string(), format!("newest place {}", flaw(words, newest))]).collect()
-}
-
-/// The previous place of the last one that the chain comes to is wrong. What it cuts off is told where no other is wrong.
-fn previous_kinds(words: &Words, chain: &Chain, last: u32, alone: bool) -> Vec<String> {
-    let [stamp, previous] = [last, chain.end].map(|place| words.version_word(place, TIMESTAMP));
-    let with = if previous > stamp { "with a greater stamp" } else { "without" };
-    let previous = match flaw(words, chain.end) {
-        _ if chain.end == last => "its own".to_string(),
-        flaw if chain.end >= words.room() => flaw.to_string(),
-        flaw => format!("{flaw}, {with}"),
-    };
-    let rest = alone.then(|| cut_off(words, last));
-    let at = rest.as_ref().map(|rest| place_at(chain, rest));
-    let nearer = [
-        (!chain.rises.is_empty()).then_some(STAMP_NEARER),
-        rest.is_some_and(|rest| !rest.rises.is_empty()).then_some(PLACE_NEARER),
-    ];
-    let both = nearer.iter().any(Option::is_some);
-    let mut kinds = vec![if both { BOTH } else { PLACES }.to_string(), format!("previous place {previous}")];
-    kinds.extend(nearer.into_iter().flatten().map(String::from));
-    kinds.extend(at.map(|at| format!("place {at}")));
-    kinds.extend(at.filter(|_| chain.is_longest()).map(|at| format!("{LONGEST}, place {at}")));
+    let mut kinds = vec![PLACES.to_string(), format!("newest place {}", flaw(words, newest))];
+    kinds.extend(in_order.then(|| NOT_IN_USE_BUT_IN_ORDER.to_string()));
     kinds
 }
 
-/// Where a chain breaks off, by what is left of it.
-fn place_at(chain: &Chain, rest: &Chain) -> &'static str {
-    PLACE_AT[match (chain.places.len(), rest.places.len()) {
-        (1, 0) => 0,
-        (1, _) => 1,
-        (_, 0) => 3,
-        _ => 2,
-    }]
+/// The previous place of the last one that the chain comes to is wrong, and nothing before it.
+fn previous_kinds(words: &Words, chain: &Chain, last: u32) -> Vec<String> {
+    let [stamp, stamp_there] = [last, chain.end].map(|place| words.version_word(place, TIMESTAMP));
+    let with = if stamp_there > stamp { "with a greater stamp" } else { "without" };
+    let previous = match flaw(words, chain.end) {
+        _ if chain.end == last => "its own".to_string(),
+        why if chain.end >= words.room() => why.to_string(),
+        why => format!("{why}, {with}"),
+    };
+    let at = if chain.places.len() == 1 { AT_NEWEST } else { FURTHER_BACK };
+    let mut kinds = vec![PLACES.to_string(), format!("previous place {previous}"), at.to_string()];
+    kinds.extend((last == 1).then(|| AT_PLACE_1.to_string()));
+    kinds.extend(chain.is_longest().then(|| BEHIND_LONGEST.to_string()));
+    kinds
 }
 
 /// Where one stamp is wrong; of several it is not told which is found.
@@ -261,12 +237,10 @@ fn sound_kinds(words: &Words) -> Vec<String> {
     SOUND.iter().zip(holds).filter(|(_, holds)| *holds).map(|(what, _)| sound(what)).collect()
 }
 
-/// All kinds that can be met. Whole chains of the most readings have no wrong place but behind the oldest.
+/// All kinds that can be met.
 pub fn possible() -> Vec<String> {
     let mut kinds = FAULTS.map(fault).to_vec();
-    kinds.extend(PLACE_AT.map(|at| fault(&format!("place {at}"))));
     kinds.extend(STAMP_AT.map(|at| fault(&format!("stamp {at}"))));
-    kinds.push(fault(&format!("{LONGEST}, place {}", PLACE_AT[3])));
     kinds.extend(STAMP_AT[1..].iter().map(|at| fault(&format!("{LONGEST}, stamp {at}"))));
     for what in [PLACES, STAMPS] {
         kinds.extend([PLACES, STAMPS].map(|other| unseen(&format!("{other} behind {what}"))));
