@@ -10,7 +10,7 @@ use archive_tests::interface::Interface;
 use archive_tests::met::Met;
 use archive_tests::run::{Failure, Run, ENOUGH, ROUND};
 use archive_tests::subject::Subject;
-use archive_tests::words::{Part, Words};
+use archive_tests::words::{Part, Words, NODES_MADE, VERSIONS_HELD};
 use archive_tests::{sizes, unknown, watch};
 use std::process::Command;
 use store_tests::broken;
@@ -100,6 +100,22 @@ fn chains_with(pass: Pass) -> Option<Failure> {
 fn every_pass_gone_wrong_is_told_by_the_plan_of_chains() {
     for pass in Pass::WRONG {
         println!("{pass:?}: {}", chains_with(pass).unwrap_or_else(|| panic!("{pass:?} is not seen")));
+    }
+}
+
+/// Of the inspections of chains each tenth, and no other, finds all words in use as they were made.
+#[test]
+fn a_tenth_of_the_plan_of_chains_alters_nothing_in_use() {
+    fn in_use(words: &Words) -> [&[u32]; 3] {
+        let [nodes, versions] = [NODES_MADE, VERSIONS_HELD].map(|count| words.state_word(count) as usize + 1);
+        [words.state(), &words.part(Part::Nodes)[..16 * nodes], &words.part(Part::Versions)[3..3 * versions]]
+    }
+    for seed in 0..200 {
+        let cases = cases::chains(seed);
+        for (number, case) in cases.iter().enumerate() {
+            let same = in_use(&case.words) == in_use(&cases[0].words);
+            assert_eq!(same, number % 10 == 0, "seed {seed}, inspection {number}");
+        }
     }
 }
 

@@ -80,10 +80,11 @@ struct Damage<'a> {
 }
 
 impl Damage<'_> {
-    /// In turn nothing, chains that differ and are in order, wrong places, wrong timestamps, both, and a chain that no
-    /// link reaches; often with words where nothing is in use, at times with a lock left.
+    /// In turn nothing in use, chains that differ and are in order, wrong places, wrong timestamps, both, and a chain
+    /// that no link reaches; often with words where nothing is in use, at times with a lock left.
     fn alter(&mut self, turn: u32) {
-        match turn % 10 {
+        let turn = turn % 10;
+        match turn {
             0 => {}
             1 => self.few(Self::equal_timestamps),
             2 => self.few(Self::rejoin),
@@ -99,13 +100,18 @@ impl Damage<'_> {
         if self.random.once_in(2) {
             self.fill_unused();
         }
-        if self.random.once_in(8) {
+        if turn != 0 && self.random.once_in(8) {
             self.leave_lock();
         }
     }
 
+    /// One to three times, and once more where one took another back.
     fn few(&mut self, alter: fn(&mut Self)) {
+        let before = self.words.clone();
         (0..self.random.pick(&[1, 1, 2, 3])).for_each(|_| alter(self));
+        if self.words == before {
+            alter(self);
+        }
     }
 
     /// A node whose chain has so many versions, if there is one, and its chain.
@@ -130,27 +136,35 @@ impl Damage<'_> {
         self.words.version_word(place, TIMESTAMP)
     }
 
-    /// Timestamps made equal to that before them, one or the whole chain: in order.
+    /// Timestamps made equal, a pair that is not yet or the whole chain at another number: in order.
     fn equal_timestamps(&mut self) {
-        let Some((_, chain)) = self.node(2) else { return };
-        let pair = self.spot(chain.len() - 1);
-        let pairs = if self.random.once_in(2) { pair..pair + 1 } else { 0..chain.len() - 1 };
-        for pair in pairs {
-            self.words.set_version_word(chain[pair + 1], TIMESTAMP, self.timestamp(chain[pair]));
+        let Some((_, chain)) = self.node(1) else { return };
+        let falls = |&at: &usize| self.timestamp(chain[at]) < self.timestamp(chain[at - 1]);
+        let unequal: Vec<usize> = (1..chain.len()).filter(falls).collect();
+        if !unequal.is_empty() && self.random.once_in(2) {
+            let at = unequal[self.spot(unequal.len())];
+            return self.words.set_version_word(chain[at], TIMESTAMP, self.timestamp(chain[at - 1]));
         }
+        let to = self.timestamp(chain[0]).wrapping_add(self.random.pick(&[1, 1_000]));
+        chain.iter().for_each(|&place| self.words.set_version_word(place, TIMESTAMP, to));
     }
 
-    /// A chain that goes on at another place, shorter or into another one: in order.
+    /// A chain that goes on at another place, shorter or into another one: in order. A single version has no other
+    /// place to go on at.
     fn rejoin(&mut self) {
-        let Some((node, chain)) = self.node(1) else { return };
-        if self.random.once_in(2) {
-            let place = self.random.within(1, self.held());
-            return self.words.set_node_word(node, NEWEST, place);
+        let held = self.held();
+        if held == 1 {
+            return self.equal_timestamps();
         }
+        let Some((node, chain)) = self.node(1) else { return };
         let place = chain[self.spot(chain.len())];
-        let prev = self.random.below(place);
-        let falls = prev != 0 && self.timestamp(prev) <= self.timestamp(place);
-        self.words.set_version_word(place, PREV, if falls { prev } else { 0 });
+        let older = self.random.below(place);
+        let prev = if self.timestamp(older) <= self.timestamp(place) { older } else { 0 };
+        if prev != self.words.version_word(place, PREV) && self.random.once_in(2) {
+            return self.words.set_version_word(place, PREV, prev);
+        }
+        let newest = self.words.node_word(node, NEWEST) + self.random.below(held - 1);
+        self.words.set_node_word(node, NEWEST, newest % held + 1);
     }
 
     fn wrong_place(&mut self) {
@@ -177,7 +191,7 @@ impl Damage<'_> {
     }
 
     fn wrong_timestamp(&mut self) {
-        let Some((_, chain)) = self.node(2) else { return };
+        let Some((_, chain)) = self.node(2) else { return self.wrong_place() };
         let pair = self.spot(chain.len() - 1);
         self.turn_pair(chain[pair], chain[pair + 1]);
     }
@@ -195,24 +209,25 @@ impl Damage<'_> {
         }
     }
 
+    /// A wrong timestamp, and behind it a wrong place: both lie on the way.
     fn both_in_one_chain(&mut self) {
-        let Some((_, chain)) = self.node(2) else { return };
-        let (at, pair) = (self.spot(chain.len()), self.spot(chain.len() - 1));
-        self.wrong_prev(chain[at]);
+        let Some((_, chain)) = self.node(2) else { return self.wrong_place() };
+        let at = self.spot(chain.len() - 1) + 1;
+        let pair = self.spot(at);
         self.turn_pair(chain[pair], chain[pair + 1]);
+        self.wrong_prev(chain[at]);
     }
 
     /// Takes a node out of level 0, with a chain that is wrong.
     fn unlink(&mut self) {
         let least = self.random.pick(&[1, 2, 2]);
-        let Some((node, chain)) = self.node(least) else { return };
+        let Some((node, chain)) = self.node(least).or_else(|| self.node(1)) else { return };
         let before = (0..self.chains.len() as u32).find(|&before| self.words.next(before, 0) == node);
         let behind = self.words.next(node, 0);
         self.words.set_node_word(before.expect("every node is linked"), NEXT, behind);
-        if least == 1 {
-            self.wrong_prev(chain[0]);
-        } else {
-            self.turn_pair(chain[0], chain[1]);
+        match chain[..] {
+            [newest, older, ..] if least == 2 => self.turn_pair(newest, older),
+            _ => self.wrong_prev(chain[0]),
         }
     }
 
