@@ -70,17 +70,22 @@ pub fn heads(seed: u64) -> Vec<Case> {
     (0..HEADS).map(case).collect()
 }
 
-/// One to three words of nodes and versions in use altered, for an inspection (mostly of an idle store), a look or a
-/// step, also of a sweep that follows; at times beside unknown numbers.
+/// One to three words of nodes and versions in use altered, for an inspection (mostly of an idle store, a fourth of them
+/// with only a top altered, which no other call reads), a look or a step, also of a sweep that follows; at times beside
+/// unknown numbers.
 pub fn tables(seed: u64) -> Vec<Case> {
     let (words, mut random) = live(seed);
     let case = |_| {
         let mut words = words.clone();
-        (0..random.within(1, 3)).for_each(|_| alter_table(&mut random, &mut words));
+        let asked = random.pick(&[Asked::Inspect, Asked::Inspect, Asked::Look, Asked::Step, Asked::Step]);
+        if asked == Asked::Inspect && random.once_in(4) {
+            alter_top(&mut random, &mut words);
+        } else {
+            (0..random.within(1, 3)).for_each(|_| alter_table(&mut random, &mut words));
+        }
         if random.once_in(4) {
             scatter_numbers(&mut random, &mut words);
         }
-        let asked = random.pick(&[Asked::Inspect, Asked::Inspect, Asked::Look, Asked::Step, Asked::Step]);
         if asked == Asked::Inspect && !random.once_in(8) {
             (0..8).for_each(|process| words.part_mut(Part::State)[words_of(process)][KIND] = 0);
             free_locks(&mut words);

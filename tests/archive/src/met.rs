@@ -4,6 +4,7 @@
 mod chains;
 mod keys;
 mod scans;
+mod tops;
 
 use crate::expected::{unknown_beside, Flaw, Outcome};
 use crate::words::{Part, Words, PHASE};
@@ -14,6 +15,7 @@ use std::collections::{BTreeMap, BTreeSet};
 use std::fmt;
 use store_tests::damage::Operation;
 use store_tests::model::{Call, COUNTS, MAX_LIMIT};
+use tops::top_kinds;
 
 const PHASES: [&str; 10] = ["walk", "read", "seek", "lock", "check", "update", "make", "link", "release", "follow"];
 const ANSWERS: [&str; 8] = ["too-old", "readings-full", "added", "trays-full", "new", "found", "none", "swept"];
@@ -148,6 +150,7 @@ fn possible() -> BTreeSet<String> {
     kinds.extend(keys::possible());
     kinds.extend(scans::possible());
     kinds.extend(chains::possible());
+    kinds.extend(tops::possible());
     kinds
 }
 
@@ -185,6 +188,7 @@ impl Met {
         key_kinds(before, words, operation, outcome).into_iter().for_each(|kind| self.add(kind));
         scan_kinds(plan, before, operation, outcome).into_iter().for_each(|kind| self.add(kind));
         chain_kinds(words, operation, outcome).into_iter().for_each(|kind| self.add(kind));
+        top_kinds(words, operation, outcome).into_iter().for_each(|kind| self.add(kind));
         if number != 10 && unknown_beside(words.state(), operation) {
             self.add(format!("{} {number} beside unknown numbers", name(operation)));
         }

@@ -24,13 +24,14 @@ pub const PRED: usize = 11;
 pub const EFFECT: usize = 14;
 const PRED_OF_LEVEL_0: usize = 15;
 // The halves of a key, low and high, in a process (its call's own and a scan's last) and in a node; a node's links and
-// locks, each from level 0 on, and the place of its newest version.
+// locks, each from level 0 on, the place of its newest version, and its top level.
 pub const KEY_OF_PROCESS: [usize; 2] = [1, 2];
 pub const LAST_OF_PROCESS: [usize; 2] = [3, 4];
 pub const KEY_OF_NODE: [usize; 2] = [0, 3];
 pub const NEXT: usize = 4;
 pub const LOCK: usize = 10;
 pub const NEWEST: usize = 1;
+pub const TOP: usize = 2;
 // Words of a version.
 pub const TIMESTAMP: usize = 1;
 pub const PREV: usize = 2;

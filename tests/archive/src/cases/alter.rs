@@ -111,6 +111,24 @@ fn alter_key(random: &mut Random, words: &mut Words) {
     words.part_mut(Part::Nodes)[node as usize * 16 + half] = to;
 }
 
+/// Tops that count as 5.
+const ABOVE_5: [u32; 6] = [6, 7, 8, 13, 1 << 31, u32::MAX];
+
+/// Another top for a node in use. One linked on all levels may have any from 5 on; else a link may lead to a top too
+/// low for it, or a level lack a node by the count of tops.
+pub fn alter_top(random: &mut Random, words: &mut Words) {
+    let nodes = words.state_word(NODES_MADE);
+    let linked = |node: u32, level: u32| (0..=nodes).any(|before| words.next(before, level) == node);
+    let on_all_levels: Vec<u32> = (1..=nodes).filter(|&node| (0..6).all(|level| linked(node, level))).collect();
+    let any = if nodes == 0 || random.once_in(8) { 0 } else { random.within(1, nodes) };
+    let (node, to) = match random.below(3) {
+        0 if !on_all_levels.is_empty() => (random.pick(&on_all_levels), random.pick(&ABOVE_5)),
+        1 => (any, random.pick(&EDGES)),
+        _ => (any, (words.node_word(any, TOP) + random.within(1, 7)) % 8),
+    };
+    words.set_node_word(node, TOP, to);
+}
+
 /// Gives a process a scan that follows, from a node in use and over a span of keys of nodes or between them, mostly in
 /// order; at times the newest reading of the node ahead is lost.
 pub fn let_follow(random: &mut Random, words: &mut Words, process: u32) {
