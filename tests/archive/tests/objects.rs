@@ -2,7 +2,7 @@
 
 mod twin;
 
-use archive_tests::cases;
+use archive_tests::cases::{self, Case};
 use archive_tests::expected::perform;
 use archive_tests::fence::Side;
 use archive_tests::history::history;
@@ -17,6 +17,7 @@ use store_tests::broken;
 use store_tests::damage::{case, Operation};
 use store_tests::generate::live_store;
 use twin::chains::Pass;
+use twin::tops::Count;
 use twin::{Slip, SLIP, TWIN};
 
 /// The first seeds with a twin that has this slip.
@@ -87,19 +88,32 @@ fn every_broken_model_is_told() {
     SLIP.set(Slip::None);
 }
 
-/// The plan of chains alone, as many of its seeds as a run that is enough has: what tells such a pass, if anything does.
-fn chains_with(pass: Pass) -> Option<Failure> {
-    SLIP.set(Slip::Pass(pass));
+/// One plan alone, so many of its seeds: what tells a slip, if anything does.
+fn told_by(plan: fn(u64) -> Vec<Case>, seeds: u64, slip: Slip) -> Option<Failure> {
+    SLIP.set(slip);
     let mut run = Run::new(&TWIN);
-    let failure = (0..100).find_map(|seed| run.cases(cases::chains(seed)).err());
+    let failure = (0..seeds).find_map(|seed| run.cases(plan(seed)).err());
     SLIP.set(Slip::None);
     failure
 }
 
+// The seeds of two plans in a run that is enough.
+const SEEDS_OF_CHAINS: u64 = 100;
+const SEEDS_OF_TABLES: u64 = 250;
+
 #[test]
 fn every_pass_gone_wrong_is_told_by_the_plan_of_chains() {
     for pass in Pass::WRONG {
-        println!("{pass:?}: {}", chains_with(pass).unwrap_or_else(|| panic!("{pass:?} is not seen")));
+        let failure = told_by(cases::chains, SEEDS_OF_CHAINS, Slip::Pass(pass));
+        println!("{pass:?}: {}", failure.unwrap_or_else(|| panic!("{pass:?} is not seen")));
+    }
+}
+
+#[test]
+fn every_count_gone_wrong_is_told_by_the_plan_of_tables() {
+    for count in Count::WRONG {
+        let failure = told_by(cases::tables, SEEDS_OF_TABLES / 10, Slip::Count(count));
+        println!("{count:?}: {}", failure.unwrap_or_else(|| panic!("{count:?} is not seen")));
     }
 }
 
@@ -122,8 +136,16 @@ fn a_tenth_of_the_plan_of_chains_alters_nothing_in_use() {
 /// One pass that is right gives the answers of the model's two.
 #[test]
 fn one_pass_answers_as_two() {
-    assert!(chains_with(Pass::Right).is_none());
+    assert!(told_by(cases::chains, SEEDS_OF_CHAINS, Slip::Pass(Pass::Right)).is_none());
     let (result, _) = run(Slip::Pass(Pass::Right), 10 * ROUND);
+    assert!(result.is_ok(), "{}", result.unwrap_err());
+}
+
+/// One count of all levels that is right gives the answers of the model, which counts each level anew.
+#[test]
+fn one_count_answers_as_one_a_level() {
+    assert!(told_by(cases::tables, SEEDS_OF_TABLES, Slip::Count(Count::Right)).is_none());
+    let (result, _) = run(Slip::Count(Count::Right), 10 * ROUND);
     assert!(result.is_ok(), "{}", result.unwrap_err());
 }
 

@@ -101,7 +101,7 @@ fn first_fault(words: &Words, rest: [u32; 9], pass: Pass) -> Option<u32> {
 }
 
 /// One pass over the chain of a node.
-fn sound(words: &Words, node: u32, pass: Pass) -> bool {
+pub fn sound(words: &Words, node: u32, pass: Pass) -> bool {
     let held = words.state_word(VERSIONS_HELD);
     let timestamp = |place: u32| words.version_word(place, TIMESTAMP);
     let newest = words.node_word(node, NEWEST);

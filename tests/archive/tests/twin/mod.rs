@@ -1,6 +1,7 @@
 //! The model behind the header's functions, on lent memory: right, or with one slip that the comparison has to tell.
 
 pub mod chains;
+pub mod tops;
 
 use archive_tests::expected::{perform, unknown_beside, Outcome};
 use archive_tests::fence::{page_words, WIDE};
@@ -14,6 +15,7 @@ use store_tests::broken::{self, Broken};
 use store_tests::damage::{Operation, Reply};
 use store_tests::machine::Machine;
 use store_tests::model::{low_half, Call, Refusal, State, Store};
+use tops::Count;
 
 #[derive(Clone, Copy, Debug, PartialEq, Eq)]
 pub enum Slip {
@@ -22,6 +24,8 @@ pub enum Slip {
     Model(broken::Slip),
     /// An inspection makes such a pass over each chain.
     Pass(Pass),
+    /// An inspection counts the nodes of the levels so.
+    Count(Count),
     /// A step's answer has another word.
     Answer(usize),
     /// Refusal 10 is told as 11.
@@ -128,6 +132,9 @@ fn spoil(slip: Slip, before: &Words, words: &mut Words, operation: Operation, ou
         Slip::ShownSwapped if step && number == 0 && outcome.words[1] == 3 => outcome.words.swap(3, 4),
         Slip::Pass(pass) if operation == Operation::Inspect && number == 0 => {
             outcome.words = chains::inspect(before, pass);
+        }
+        Slip::Count(count) if operation == Operation::Inspect && number == 0 => {
+            outcome.words = tops::inspect(before, count);
         }
         Slip::RefusedOpenKeeps if (1..5).contains(&number) => words.clone_from(before),
         _ => {}
