@@ -6,7 +6,7 @@ use crate::words::*;
 use store_tests::damage::Operation;
 use store_tests::generate::{any_call, call};
 use store_tests::ledger::Opening;
-use store_tests::model::{key_of_halves, Call, FIRST_KEY, LAST_KEY, MAX_LIMIT};
+use store_tests::model::{key_of_halves, Call, FIRST_KEY, LAST_KEY, LEVELS, MAX_LIMIT};
 use store_tests::random::Random;
 
 /// One store and the run that it is compared in.
@@ -31,6 +31,9 @@ pub fn history(run: &mut Run, seed: u64, altered: bool) -> Result<(), Failure> {
         limit: if random.once_in(4) { random.within(1, 300) } else { MAX_LIMIT },
     };
     let mut story = Story::open(run, random, opening)?;
+    if story.random.once_in(2) {
+        story.let_pass()?;
+    }
     let mut favourite = 0;
     for _ in 0..story.random.within(100, 600) {
         if story.random.once_in(5) {
@@ -64,6 +67,21 @@ impl<'r, 'a> Story<'r, 'a> {
 
     fn call(&mut self, operation: Operation) -> Result<u32, Failure> {
         self.run.call(&mut self.words, None, operation).map(|outcome| outcome.words[0])
+    }
+
+    /// On a fresh store: a scan walks, another process puts a key below its first, and it has to pass that one. It seldom
+    /// comes about by itself.
+    fn let_pass(&mut self) -> Result<(), Failure> {
+        let first = call(&mut self.random, self.pool).key().max(FIRST_KEY + 1);
+        let put = Call::Put { key: first - 1, value: self.random.word(), timestamp: 1_000, draw: 1 };
+        self.call(Operation::Start { process: 0, call: Call::Scan { first, last: LAST_KEY } })?;
+        for _ in 0..LEVELS {
+            self.call(Operation::Step { process: 0 })?;
+        }
+        self.call(Operation::Start { process: 1, call: put })?;
+        while self.words.is_running(1) && self.call(Operation::Step { process: 1 })? == 0 {}
+        self.call(Operation::Step { process: 0 })?;
+        Ok(())
     }
 
     /// One call: mostly the next move of a process, the favourite or another.

@@ -95,11 +95,12 @@ fn process(random: &mut Random, words: &Words, focus: Option<u32>) -> u32 {
     }
 }
 
-/// At an edge, or one that stands in the node table or agrees with such a one in one half, or any.
+/// At an edge, at times out of range, or one that stands in the node table or agrees with such a one in one half, or any.
 fn key(random: &mut Random, words: &Words) -> u64 {
     let nodes = (words.part(Part::Nodes).len() / 16) as u32;
     let last = words.state_word(NODES_MADE).min(nodes.saturating_sub(1));
     match random.below(8) {
+        0 if random.once_in(3) => random.pick(&[FIRST_KEY - 1, LAST_KEY + 1]),
         0 => random.pick(&EDGE_KEYS),
         1 => random.long(),
         2 if last > 0 => {
