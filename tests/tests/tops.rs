@@ -1,5 +1,5 @@
-//! The inspection's count of nodes by their tops, answers worked by hand from document 01: they are the same whether each
-//! level is counted at its end or all are at once, a top above 5 as 5.
+//! The inspection's count of nodes by their tops, answers worked by hand from document 01: the same whether each level is
+//! counted at its end or all are at once, a top above 5 as 5.
 
 use store_tests::model::*;
 

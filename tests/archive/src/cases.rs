@@ -70,9 +70,9 @@ pub fn heads(seed: u64) -> Vec<Case> {
     (0..HEADS).map(case).collect()
 }
 
-/// One to three words of nodes and versions in use altered, for an inspection (mostly of an idle store, a fourth of them
-/// with only a top altered, which no other call reads), a look or a step, also of a sweep that follows; at times beside
-/// unknown numbers.
+/// One to three words of nodes and versions in use altered, for an inspection (mostly of an idle store), a look or a
+/// step, also of a sweep that follows; at times beside unknown numbers. For a fourth of the inspections only a top, which
+/// no other call reads.
 pub fn tables(seed: u64) -> Vec<Case> {
     let (words, mut random) = live(seed);
     let case = |_| {

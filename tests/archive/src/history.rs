@@ -69,7 +69,7 @@ impl<'r, 'a> Story<'r, 'a> {
         self.run.call(&mut self.words, None, operation).map(|outcome| outcome.words[0])
     }
 
-    /// On a fresh store: a scan walks, another process puts a key below its first, and it has to pass that one. It seldom
+    /// On a fresh store: a scan walks, another process puts a key below its first, and the scan passes it. That seldom
     /// comes about by itself.
     fn let_pass(&mut self) -> Result<(), Failure> {
         let first = call(&mut self.random, self.pool).key().max(FIRST_KEY + 1);

@@ -95,7 +95,7 @@ fn process(random: &mut Random, words: &Words, focus: Option<u32>) -> u32 {
     }
 }
 
-/// At an edge, at times out of range, or one that stands in the node table or agrees with such a one in one half, or any.
+/// At an edge, often out of range, or one that stands in the node table or agrees with it in one half, or any.
 fn key(random: &mut Random, words: &Words) -> u64 {
     let nodes = (words.part(Part::Nodes).len() / 16) as u32;
     let last = words.state_word(NODES_MADE).min(nodes.saturating_sub(1));

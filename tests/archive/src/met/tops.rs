@@ -38,7 +38,7 @@ fn sound_kinds(words: &Words) -> Vec<String> {
     holds.iter().filter(|(holds, _)| *holds).map(|(_, kind)| kind.to_string()).collect()
 }
 
-/// A fault without a lock is one of the link, of the next key, of the next top, or where the link is the end, of the count.
+/// Where no lock is the fault, the link is, or the next key or top; at the end only the count can be.
 fn fault_kinds(words: &Words, level: u32, node: u32) -> Vec<String> {
     let next = words.next(node, level);
     let rises = words.node_key(next) > words.node_key(node);
