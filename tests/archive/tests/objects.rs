@@ -125,9 +125,9 @@ fn a_tenth_of_the_plan_of_chains_alters_nothing_in_use() {
         [words.state(), &words.part(Part::Nodes)[..16 * nodes], &words.part(Part::Versions)[3..3 * versions]]
     }
     for seed in 0..200 {
-        let cases = cases::chains(seed);
-        for (number, case) in cases.iter().enumerate() {
-            let same = in_use(&case.words) == in_use(&cases[0].words);
+        let inspections = cases::chains(seed);
+        for (number, case) in inspections.iter().enumerate() {
+            let same = in_use(&case.words) == in_use(&inspections[0].words);
             assert_eq!(same, number % 10 == 0, "seed {seed}, inspection {number}");
         }
     }
