@@ -6,14 +6,14 @@ use model::types::State;
 use printer::types::Line;
 
 // The line of a command and the state after it, beside the buffers.
-#[derive(Drop)]
+#[derive(Clone, Copy)]
 pub struct Performed {
     pub line: Line,
     pub state: State,
 }
 
 // Words to lend for both tables and the tally.
-#[derive(Drop)]
+#[derive(Clone, Copy)]
 pub struct Buffers {
     pub nodes: usize,
     pub versions: usize,

@@ -1,7 +1,7 @@
 // A command of a sheet, and what decoding finds.
 use model::types::Key;
 // A command with its operands. `keys` and `versions` are document 01's K and V.
-#[derive(Drop)]
+#[derive(Clone, Copy)]
 pub enum Command {
     Open {
         keys: u32,
@@ -31,7 +31,7 @@ pub enum Command {
 }
 
 // What stands at a position of the bytes read so far.
-#[derive(Drop)]
+#[derive(Clone, Copy)]
 pub enum Decoded {
     // A whole command, and how many bytes it has.
     Whole(Command, usize),

@@ -1,5 +1,7 @@
 // The part as C links it (include/tray_store.h): numbers and lent words in, a number and answer words out. The parameters
 // are named as the header names them. Whatever the words hold, no call asks anything of them, and each tests those that it uses.
+#![tactic(auto)]
+
 ghost use Rattle.std.specs.Prelude.{◌≡◌, [], ◌∷◌};
 ghost use Rattle.model.specs.Layout.{limits};
 ghost use Rattle.model.specs.Requests.{put, get, scan};

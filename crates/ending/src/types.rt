@@ -3,7 +3,7 @@ use decoder::types::Command;
 use model::types::Refusal;
 
 // What a sheet has at a place.
-#[derive(Drop)]
+#[derive(Clone, Copy)]
 pub enum Rest {
     Next(Command, usize), // a command, and how many bytes it takes
     More, // what more bytes decide

@@ -1,4 +1,6 @@
 // The inspection of an idle store: it changes nothing.
+#![tactic(auto)]
+
 mod faults;
 pub mod inspect;
 mod tops;

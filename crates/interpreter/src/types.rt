@@ -2,7 +2,7 @@
 use model::types::State;
 
 // What a run needs before it can go on.
-#[derive(Drop)]
+#[derive(Clone, Copy)]
 pub enum Needs {
     Nothing,
     Page, // one with room for a line
@@ -12,7 +12,7 @@ pub enum Needs {
 
 // Where a run of commands stands: the state, how many bytes were played, the position after what was printed, and what it
 // needs.
-#[derive(Drop)]
+#[derive(Clone, Copy)]
 pub struct Played {
     pub state: State,
     pub read: usize,

@@ -9,7 +9,7 @@ pub const OPEN: u32 = 1;
 
 // Where each word of the header stands: whether the state is open, processes, limit, events, lengths of both tables, nodes and
 // versions in use.
-#[derive(Drop)]
+#[derive(Clone, Copy)]
 pub struct HeaderOffsets {
     pub opened: usize,
     pub processes: usize,
@@ -58,7 +58,7 @@ impl HeaderOffsets {
 }
 
 // Where the two parts of the head begin.
-#[derive(Drop)]
+#[derive(Clone, Copy)]
 pub struct HeadOffsets {
     pub version: usize,
     pub header: usize,

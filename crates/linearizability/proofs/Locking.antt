@@ -6,7 +6,7 @@ use mathlib.Core.Path.{◌≡◌, refl, sym, ap, ◌∙◌, subst}
 use native.Mathlib.Omega.{arith}
 use native.Mathlib.Numerals.{add-one}
 use lib.ListN.{get_or}
-use Rattle.linearizability.specs.Types.{Phase, Seek, Lock, Check, Update, Make, Link, Class, Inserted, OtherPut, Hit, Miss, Call, Cursor, Process, Ahead, Unused, Less, Equal, Past, Move, Wait, Go, End}
+use Rattle.linearizability.specs.Types.{Phase, Seek, Lock, Check, Update, Make, Link, Class, Inserted, OtherPut, Hit, Miss, Scanned, Call, Cursor, Process, Ahead, Unused, Less, Equal, Past, Move, Wait, Go, End}
 use Rattle.model.specs.Layout.{Memory, top_level, top, next, lock}
 use Rattle.model.specs.Map.{Map}
 use Rattle.model.specs.Phases.{Moved, at, own_version, ahead, with_holder, lock_of, check_by, check_of, rise, released, freed, release_of}
@@ -178,6 +178,7 @@ module _ (m : Memory) (g : Ghost) (i : ℕ) (pr : Process) (tick : ℕ) (b : Map
   release_by_good OtherPut ec w ne q h s = rw ec (end_good w ne q h (λ x k. absurd (other≢inserted (sym ec ∙ k.answer))))
   release_by_good Hit ec w ne q h s = absurd s
   release_by_good Miss ec w ne q h s = absurd s
+  release_by_good Scanned ec w ne q h s = absurd s
 
   pub release_good : Puts pr → pr.effect.tick ≢ 0 → PlacedOf m g pr → HoldsOf m i pr → SettledOf m g i pr
       → R (release_of call c pr.effect pr.preds m)

@@ -1,2 +1,4 @@
 // The line of a sheet's output that the outcome of each call prints.
+#![tactic(auto)]
+
 pub mod outcome;

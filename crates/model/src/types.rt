@@ -7,7 +7,7 @@ ghost use Rattle.model.specs.State.{idle_process, fresh_state, closed_state};
 pub type Key = u64;
 
 // What a process was asked for; `Idle` where it has no call.
-#[derive(Drop)]
+#[derive(Clone, Copy)]
 pub enum Kind {
     Idle,
     Put,
@@ -16,7 +16,7 @@ pub enum Kind {
 }
 
 // Where a call stands. The comment names the procedure of figure 1 that the phase is a part of.
-#[derive(Drop)]
+#[derive(Clone, Copy)]
 pub enum Phase {
     Walk, // findAll
     Read, // get
@@ -31,7 +31,7 @@ pub enum Phase {
 }
 
 // What a phase is for: which kinds go through it goes by this.
-#[derive(Drop)]
+#[derive(Clone, Copy)]
 pub enum Role {
     Searching, // every call's
     Reading, // a get's
@@ -41,7 +41,7 @@ pub enum Role {
 }
 
 // Document 01's answers, in the order in which its plain ledger names them, and behind them the one that no tally counts.
-#[derive(Drop)]
+#[derive(Clone, Copy)]
 pub enum Answer {
     TooOld,
     VersionsFull,
@@ -54,7 +54,7 @@ pub enum Answer {
 }
 
 // Whose an answer is: what goes with it, and what may follow it, goes by this.
-#[derive(Drop)]
+#[derive(Clone, Copy)]
 pub enum Class {
     Inserted, // a put's that made its node
     OtherPut, // a put's that made none
@@ -64,7 +64,7 @@ pub enum Class {
 }
 
 // Document 01's refusals 1 to 16, in its order, and document 02's behind them.
-#[derive(Drop)]
+#[derive(Clone, Copy)]
 pub enum Refusal {
     NodeLength,
     VersionLength,
@@ -87,7 +87,7 @@ pub enum Refusal {
 
 // What was asked, and the tick of its start: no step changes it. A scan's keys are `key` to `last`; a put and a get have one, their
 // first and their last.
-#[derive(Drop)]
+#[derive(Clone, Copy)]
 pub struct Call {
     pub kind: Kind,
     pub key: Key,
@@ -99,7 +99,7 @@ pub struct Call {
 }
 
 // Where the call stands: document 01's level L, node p and new node.
-#[derive(Drop)]
+#[derive(Clone, Copy)]
 pub struct Cursor {
     pub phase: Phase,
     pub level: u32,
@@ -108,14 +108,14 @@ pub struct Cursor {
 }
 
 // The linearization point of the call, once it is there; its tick is 0 before.
-#[derive(Drop)]
+#[derive(Clone, Copy)]
 pub struct Effect {
     pub answer: Answer,
     pub tick: u32,
 }
 
 // Document 01's station. `preds` has the node remembered at each level.
-#[derive(Drop)]
+#[derive(Clone, Copy)]
 pub struct Process {
     pub call: Call,
     pub cursor: Cursor,
@@ -124,20 +124,20 @@ pub struct Process {
 }
 
 // Nodes (the head not counted) and versions in use.
-#[derive(Drop)]
+#[derive(Clone, Copy)]
 pub struct Counts {
     pub nodes: u32,
     pub versions: u32,
 }
 
 // Lengths of the lent tables, in words.
-#[derive(Drop)]
+#[derive(Clone, Copy)]
 pub struct Lengths {
     pub nodes: u32,
     pub versions: u32,
 }
 
-#[derive(Drop)]
+#[derive(Clone, Copy)]
 pub struct State {
     pub opened: bool,
     pub processes: u32,
@@ -149,21 +149,21 @@ pub struct State {
 }
 
 // A version of a key's value: document 01's reading.
-#[derive(Drop)]
+#[derive(Clone, Copy)]
 pub struct Version {
     pub value: u32,
     pub timestamp: u32,
 }
 
 // What a scan shows of a node: its key and its newest version.
-#[derive(Drop)]
+#[derive(Clone, Copy)]
 pub struct Item {
     pub key: Key,
     pub version: Version,
 }
 
 // Where a node's link leads, against a key.
-#[derive(Drop)]
+#[derive(Clone, Copy)]
 pub enum Ahead {
     Unused, // to a node that is not in use
     Less(u32), // to this node, with a smaller key
@@ -172,7 +172,7 @@ pub enum Ahead {
 }
 
 // What a phase asks of the process.
-#[derive(Drop)]
+#[derive(Clone, Copy)]
 pub enum Move {
     Refuse, // damage
     Wait, // the lock is held
@@ -184,14 +184,14 @@ pub enum Move {
 }
 
 // The call may go on, or is refused.
-#[derive(Drop)]
+#[derive(Clone, Copy)]
 pub enum Permit {
     Granted,
     Denied(Refusal),
 }
 
 // What the finishing step tells of a call.
-#[derive(Drop)]
+#[derive(Clone, Copy)]
 pub struct Finish {
     pub kind: Kind,
     pub answer: Answer,
@@ -203,31 +203,31 @@ pub struct Finish {
 }
 
 // Outcomes of opening, of a start and of a step, each beside the state that it leaves.
-#[derive(Drop)]
+#[derive(Clone, Copy)]
 pub enum Opening {
     Refused(Refusal),
     Opened,
 }
 
-#[derive(Drop)]
+#[derive(Clone, Copy)]
 pub struct OpenResult {
     pub outcome: Opening,
     pub state: State,
 }
 
-#[derive(Drop)]
+#[derive(Clone, Copy)]
 pub enum Starting {
     Refused(Refusal),
     Started(u32),
 }
 
-#[derive(Drop)]
+#[derive(Clone, Copy)]
 pub struct StartResult {
     pub outcome: Starting,
     pub state: State,
 }
 
-#[derive(Drop)]
+#[derive(Clone, Copy)]
 pub enum Stepping {
     Refused(Refusal),
     Moved(u32),
@@ -236,21 +236,21 @@ pub enum Stepping {
     Finished(Finish),
 }
 
-#[derive(Drop)]
+#[derive(Clone, Copy)]
 pub struct StepResult {
     pub outcome: Stepping,
     pub state: State,
 }
 
 // Outcomes of the calls that change nothing.
-#[derive(Drop)]
+#[derive(Clone, Copy)]
 pub enum Looking {
     Refused(Refusal),
     Shown(Version),
 }
 
 // Document 01's inspection: sound, or the level and the node reached.
-#[derive(Drop)]
+#[derive(Clone, Copy)]
 pub enum Inspecting {
     Refused(Refusal),
     Sound,
@@ -258,7 +258,7 @@ pub enum Inspecting {
 }
 
 // Document 01's standing: idle, or the call's kind, start tick and effect tick.
-#[derive(Drop)]
+#[derive(Clone, Copy)]
 pub enum Status {
     Refused(Refusal),
     Idle,
@@ -266,7 +266,7 @@ pub enum Status {
 }
 
 // The sizes and limits of document 01 as numbers, for whoever lends memory.
-#[derive(Drop)]
+#[derive(Clone, Copy)]
 pub struct Limits {
     pub nodewords: u32,
     pub versionwords: u32,
@@ -281,7 +281,7 @@ pub struct Limits {
 }
 
 // Where each word of a node stands among its words; `links` and `locks` are those of level 0, and the other levels follow.
-#[derive(Drop)]
+#[derive(Clone, Copy)]
 pub struct NodeOffsets {
     pub keylow: usize,
     pub newest: usize,
@@ -292,7 +292,7 @@ pub struct NodeOffsets {
 }
 
 // Where each word of a version stands.
-#[derive(Drop)]
+#[derive(Clone, Copy)]
 pub struct VersionOffsets {
     pub value: usize,
     pub timestamp: usize,

@@ -1,9 +1,12 @@
 // The papers' number of each refusal; the number of each answer, kind and phase in a word, and what such a number means.
+#![tactic(auto)]
+
 ghost use Rattle.std.specs.Prelude.{◌≡◌};
 ghost use Rattle.model.specs.Numbers.{number_of, answer_number, answer_of, kind_number, kind_from, phase_number, phase_from};
 
 use model::types::{Answer, Kind, Phase, Refusal};
 
+#[tactic(auto, unfolding(model::specs::Numbers::number_of))]
 pub fn number_of(refusal: Refusal) -> u32
     ensures { result ≡ number_of refusal }
 {
@@ -28,6 +31,7 @@ pub fn number_of(refusal: Refusal) -> u32
     }
 }
 
+#[tactic(auto, unfolding(model::specs::Numbers::answer_number))]
 pub fn answer_number(answer: Answer) -> u32
     ensures { result ≡ answer_number answer }
 {

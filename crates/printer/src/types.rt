@@ -2,7 +2,7 @@
 use model::types::{Finish, Key, Refusal};
 
 // A line of output. `Stepped` is a step that went on, `Waited` one at a held lock, `Done` one that finished its call.
-#[derive(Drop)]
+#[derive(Clone, Copy)]
 pub enum Line {
     Opened {
         keys: u32,
@@ -44,7 +44,7 @@ pub enum Line {
 pub type Format = [u8; 25];
 
 // What a line says: how its two halves read, and the key and the numbers that stand in their places.
-#[derive(Drop)]
+#[derive(Clone, Copy)]
 pub struct Sentence {
     pub opening: Format,
     pub closing: Format,

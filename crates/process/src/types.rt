@@ -2,7 +2,7 @@
 ghost use Rattle.std.specs.Prelude.{◌≡◌};
 ghost use Rattle.process.specs.ProcessWords.{sizes, process_offsets};
 
-#[derive(Drop)]
+#[derive(Clone, Copy)]
 pub struct Sizes {
     pub version: u32,
     pub head: usize,
@@ -34,7 +34,7 @@ impl Sizes {
 }
 
 // Where each word of a process stands among its words; `preds` is that of level 0, and the other levels follow.
-#[derive(Drop)]
+#[derive(Clone, Copy)]
 pub struct ProcessOffsets {
     pub kind: usize,
     pub keylow: usize,

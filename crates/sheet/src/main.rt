@@ -1,4 +1,6 @@
 // Plays a sheet: commands from standard input, a line for each on standard output.
+#![tactic(auto)]
+
 mod input;
 mod pages;
 mod retry;

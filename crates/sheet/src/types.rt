@@ -4,7 +4,7 @@ use model::types::State;
 
 // A run between two rounds: the store's state, where the bytes that were read and not played begin and end, whether the input
 // has ended with them, where the lines of its page end, and what the run needs.
-#[derive(Drop)]
+#[derive(Clone, Copy)]
 pub struct Run {
     pub state: State,
     pub from: usize,
@@ -15,7 +15,7 @@ pub struct Run {
 }
 
 // What a read brings: so many bytes, the end of the input, or nothing, since it failed.
-#[derive(Drop)]
+#[derive(Clone, Copy)]
 pub enum Input {
     Bytes(usize),
     End,

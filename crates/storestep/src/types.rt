@@ -1,7 +1,7 @@
 use model::types::{Counts, Process, Stepping};
 
 // What a step leaves of one process, beside the tables and the tally.
-#[derive(Drop)]
+#[derive(Clone, Copy)]
 pub struct Advanced {
     pub refused: bool,
     pub outcome: Stepping,

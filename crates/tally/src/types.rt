@@ -1,5 +1,5 @@
 // Finished calls of each answer that is counted, in the order of `Answer`.
-#[derive(Drop)]
+#[derive(Clone, Copy)]
 pub struct Tally {
     pub too_old: u32,
     pub versions_full: u32,

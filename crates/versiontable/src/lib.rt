@@ -1,2 +1,4 @@
 // The words of the lent version table. Every read and write of a version goes through these functions.
+#![tactic(auto)]
+
 pub mod versions;
