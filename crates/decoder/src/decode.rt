@@ -8,6 +8,7 @@ use model::types::Key;
 use values::halves::joined;
 
 // The number that bytes make, the most significant first.
+#[tactic(auto, unfolding(crate::specs::Commands::big_endian_from))]
 fn big_endian(bytes: &[u8]) -> u32
     requires { length bytes.now ≤ 4 }
     ensures value { result ≡ big_endian bytes.now }

@@ -67,6 +67,8 @@ front_alike false x y h = h refl
 -- where the digits are enough, more of them change nothing
 digits_enough : (f g n : ℕ) → n < f → n < g → digits f n ≡ digits g n
 unfolding digits
+digits_enough zero g n h k = elim h [ ]
+digits_enough (suc f) zero n h k = elim k [ ]
 digits_enough (suc f) (suc g) n h k =
     ap (λ (front : List ℕ). front ++ (digit (n % 10) ∷ []))
     (front_alike (ltb n 10) (digits f (n / 10)) (digits g (n / 10)) (λ t. digits_enough f g (n / 10) (omega (arith, ltb-false n 10 t)) (omega (arith, ltb-false n 10 t))))

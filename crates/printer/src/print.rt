@@ -10,6 +10,7 @@ use model::types::{Answer, Finish, Key, Kind};
 use numbers::number_of;
 
 // How the line of a finished call begins.
+#[tactic(auto, unfolding(crate::specs::Sentences::byte_case, crate::specs::Sentences::filled, crate::specs::Sentences::most, crate::specs::Sentences::number_at, crate::specs::Sentences::piece))]
 fn kind_format(kind: Kind) -> Format
     ensures { Opens kind result }
 {
@@ -22,6 +23,7 @@ fn kind_format(kind: Kind) -> Format
 }
 
 // How it goes on.
+#[tactic(auto, unfolding(crate::specs::Sentences::byte_case, crate::specs::Sentences::filled, crate::specs::Sentences::most, crate::specs::Sentences::number_at, crate::specs::Sentences::piece))]
 fn answer_format(answer: Answer) -> Format
     ensures { Closes answer result }
 {
@@ -67,6 +69,7 @@ fn done(process: u32, f: Finish) -> Sentence
 }
 
 // The format of each line, and its numbers in the order of their places.
+#[tactic(auto, unfolding(crate::specs::Sentences::byte_case, crate::specs::Sentences::filled, crate::specs::Sentences::most, crate::specs::Sentences::number_at, crate::specs::Sentences::piece))]
 fn sentence_of(line: Line) -> Sentence
     ensures result_value { sentence result ≡ line_of line }
     ensures result_bound { longest result ≤ room }

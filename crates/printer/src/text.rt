@@ -20,6 +20,7 @@ fn put_decimal(out: &mut [u8], at: usize, n: u64) -> usize
 }
 
 // The number that a place of a format is for.
+#[tactic(auto, unfolding(crate::specs::Sentences::number_at))]
 fn number_at(key: u64, numbers: [u32; 6], b: u8) -> u64
     requires { Place b }
     ensures { result ≡ number_at key numbers b }

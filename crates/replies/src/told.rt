@@ -29,6 +29,7 @@ const SHOWN: u32 = 3;
 const FAULT: u32 = 1;
 
 // An opening has no answer beside its number.
+#[tactic(auto, unfolding(crate::specs::Told::open_told))]
 pub fn tell_open(outcome: Opening) -> u32
     ensures { result ≡ open_told outcome }
 {
@@ -39,6 +40,7 @@ pub fn tell_open(outcome: Opening) -> u32
 }
 
 // The tick, which is never 0 where the start was let pass.
+#[tactic(auto, unfolding(crate::specs::Told::start_told))]
 pub fn tell_start(outcome: Starting, tick: &mut u32) -> u32
     ensures { reply result (tick.new ∷ []) ≡ start_told outcome }
 {
@@ -99,6 +101,7 @@ fn finish_words(f: Finish) -> [u32; STEP_WORDS]
 }
 
 // Eight words for every outcome, those that it does not use 0, so that a caller may read them all without a test.
+#[tactic(auto, unfolding(crate::specs::Told::step_told))]
 pub fn tell_step(outcome: Stepping, answer: &mut [u32; STEP_WORDS]) -> u32
     ensures { reply result answer.new ≡ step_told outcome }
 {
@@ -127,6 +130,7 @@ pub fn tell_step(outcome: Stepping, answer: &mut [u32; STEP_WORDS]) -> u32
 }
 
 // Value and timestamp: any two words may be a version, so that only the number tells a refusal from one of zeroes.
+#[tactic(auto, unfolding(crate::specs::Told::look_told))]
 pub fn tell_look(outcome: Looking, answer: &mut [u32; LOOK_WORDS]) -> u32
     ensures { reply result answer.new ≡ look_told outcome }
 {
@@ -143,6 +147,7 @@ pub fn tell_look(outcome: Looking, answer: &mut [u32; LOOK_WORDS]) -> u32
 }
 
 // A fault is no refusal: the call did what was asked, and the number is 0.
+#[tactic(auto, unfolding(crate::specs::Told::inspect_told))]
 pub fn tell_inspect(outcome: Inspecting, answer: &mut [u32; INSPECT_WORDS]) -> u32
     ensures { reply result answer.new ≡ inspect_told outcome }
 {
@@ -163,6 +168,7 @@ pub fn tell_inspect(outcome: Inspecting, answer: &mut [u32; INSPECT_WORDS]) -> u
 }
 
 // The kind's number tells whether there is a call: it is 0 for a process that has none, as its two ticks are.
+#[tactic(auto, unfolding(crate::specs::Told::status_told))]
 pub fn tell_status(outcome: Status, answer: &mut [u32; STATUS_WORDS]) -> u32
     ensures { reply result answer.new ≡ status_told outcome }
 {

@@ -16,6 +16,7 @@ pub fn clear(words: &mut [u32])
 }
 
 // All zero but the head's top level.
+#[tactic(auto, unfolding(model::specs::Layout::fresh_nodes, model::specs::Layout::with_word))]
 pub fn clear_nodes(nodes: &mut [u32])
     requires { node_words ≤ length nodes.old }
     ensures { nodes.new ≡ fresh_nodes (length nodes.old) }

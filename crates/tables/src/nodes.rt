@@ -12,6 +12,7 @@ use values::halves::{high_half, joined, low_half};
 const NODE_WORDS: usize = State::NODE_WORDS as usize;
 
 // Word `field` of a node.
+#[tactic(auto, unfolding(model::specs::Layout::word))]
 fn word_at(nodes: &[u32], node: u32, field: usize) -> u32
     requires node_room { NodeRoom nodes.now node }
     requires field_lt_node_words { field < node_words }
@@ -21,6 +22,7 @@ fn word_at(nodes: &[u32], node: u32, field: usize) -> u32
     nodes[NODE_WORDS * x + field]
 }
 
+#[tactic(auto, unfolding(model::specs::Layout::with_word))]
 fn set_word(nodes: &mut [u32], node: u32, field: usize, to: u32)
     requires node_room { NodeRoom nodes.old node }
     requires field_lt_node_words { field < node_words }
@@ -114,6 +116,7 @@ pub fn write_node(nodes: &mut [u32], node: u32, key: Key, version: u32, top: u32
 }
 
 // Whether the table has no room for a node after the last one in use.
+#[tactic(auto, unfolding(model::specs::Layout::capacity))]
 pub fn nodes_full(nodes: &[u32], used: u32) -> bool
     requires { NodeRoom nodes.now used }
     ensures { result ≡ leb (capacity node_words (length nodes.now)) used }
@@ -124,6 +127,7 @@ pub fn nodes_full(nodes: &[u32], used: u32) -> bool
 }
 
 // Where the link of a node leads, against a key; `used` is the last node in use.
+#[tactic(auto, unfolding(model::specs::Phases::ahead))]
 pub fn ahead(nodes: &[u32], used: u32, level: u32, pred: u32, key: Key) -> Ahead
     requires level_room { LevelRoom nodes.now level pred }
     requires node_room { NodeRoom nodes.now used }

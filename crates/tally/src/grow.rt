@@ -6,6 +6,7 @@ use crate::types::Tally;
 use model::types::{Answer, State};
 
 // A full count stays.
+#[tactic(auto, unfolding(crate::specs::Tally::more_of))]
 pub fn more(n: u32) -> u32
     ensures { result ≡ more_of n }
 {
@@ -13,6 +14,7 @@ pub fn more(n: u32) -> u32
 }
 
 // Thin on purpose: only the walk of a struct behind `&mut` is by hand, the number is `more`'s.
+#[tactic(auto, unfolding(contract::Running::tables_of))]
 pub fn grow(t: &mut Tally, answer: Answer)
     ensures { t.exit.now ≡ grown_tally t.entry.now answer }
 {

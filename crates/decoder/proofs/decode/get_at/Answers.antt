@@ -1,0 +1,9 @@
+-- Each operand stands behind the one before.
+use Rattle.decoder.proofs.Decoding.{get_is}
+use borrow.Author.Rules.{rules}
+use Rattle.decoder.proofs.decode.get_at.Goals as goal
+
+pub returns : goal.returns
+returns c =
+    let a = c.args in
+    get_is a.bytes.now a.at a.width c.number-process.result c.key_at-key.result c.number-process.ensures.0 c.key_at-key.ensures
