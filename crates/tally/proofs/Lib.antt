@@ -1,4 +1,1 @@
 pub mod Laws
-pub mod Loan
-pub mod Values
-pub mod Walk

@@ -37,7 +37,7 @@ fn put_tally(words: &mut [u32], t: Tally)
 }
 
 // One more of an answer.
-#[tactic(auto, unfolding(contract::Running::tables_of))]
+#[tactic(auto, using(crate::proofs::Laws::counted_grown))]
 pub fn count(tally: &mut [u32], answer: Answer)
     requires { length tally.old ≡ limits.tally }
     ensures { tally.new ≡ counted tally.old answer }

@@ -14,7 +14,7 @@ pub fn more(n: u32) -> u32
 }
 
 // Thin on purpose: only the walk of a struct behind `&mut` is by hand, the number is `more`'s.
-#[tactic(auto, unfolding(contract::Running::tables_of))]
+#[tactic(auto, unfolding(crate::specs::Tally::grown_tally))]
 pub fn grow(t: &mut Tally, answer: Answer)
     ensures { t.exit.now ≡ grown_tally t.entry.now answer }
 {

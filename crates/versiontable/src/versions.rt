@@ -9,6 +9,7 @@ use model::types::{State, Version, VersionOffsets};
 const VERSION_WORDS: usize = State::VERSION_WORDS as usize;
 
 // Word `word` of a version.
+#[tactic(auto, unfolding(model::specs::Layout::field))]
 fn field_at(versions: &[u32], version: u32, word: usize) -> u32
     requires version_room { VersionRoom versions.now version }
     requires word_lt_version_words { word < version_words }
@@ -59,6 +60,7 @@ fn fill_version(part: &mut [u32], value: u32, timestamp: u32, prev: u32)
 }
 
 // A new version: its part of the table is lent to the writer of one version.
+#[tactic(auto, unfolding(model::specs::Layout::with_version))]
 pub fn write_version(versions: &mut [u32], version: u32, value: u32, timestamp: u32, prev: u32)
     requires { VersionRoom versions.old version }
     ensures { versions.new ≡ with_version versions.old version (record { value = value; timestamp = timestamp }) prev }
@@ -69,6 +71,7 @@ pub fn write_version(versions: &mut [u32], version: u32, value: u32, timestamp: 
 }
 
 // Whether the table has no room for a version after the last one in use.
+#[tactic(auto, unfolding(model::specs::Layout::capacity))]
 pub fn versions_full(versions: &[u32], used: u32) -> bool
     requires { VersionRoom versions.now used }
     ensures { result ≡ leb (capacity version_words (length versions.now)) used }

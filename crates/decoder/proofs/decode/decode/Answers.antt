@@ -13,42 +13,42 @@ returns-then-bytes-at c = no_byte _ _ c.if-bytes-at.true
 
 pub returns-in-79 : goal.returns-in-79
 unfolding code_from
-returns-in-79 c = c.open_from.ensures ∙ form_at _ _ c.if-bytes-at.false _ _ (λ rest. refl) c.in-79.keys1
+returns-in-79 c = c.open_from.ensures ∙ form_at _ _ c.if-bytes-at.false _ _ (λ rest. refl) c.in-79.is
 
 pub returns-in-80 : goal.returns-in-80
 unfolding code_from
-returns-in-80 c = c.put_from.ensures ∙ form_at _ _ c.if-bytes-at.false _ _ (λ rest. refl) c.in-79.keys2
+returns-in-80 c = c.put_from.ensures ∙ form_at _ _ c.if-bytes-at.false _ _ (λ rest. refl) c.in-80.is
 
 pub returns-in-71 : goal.returns-in-71
 unfolding code_from
-returns-in-71 c = c.get_from.ensures ∙ form_at _ _ c.if-bytes-at.false _ _ (λ rest. refl) c.in-79.keys3
+returns-in-71 c = c.get_from.ensures ∙ form_at _ _ c.if-bytes-at.false _ _ (λ rest. refl) c.in-71.is
 
 pub returns-in-83 : goal.returns-in-83
 unfolding code_from
-returns-in-83 c = c.step_from.ensures ∙ form_at _ _ c.if-bytes-at.false _ _ (λ rest. refl) c.in-79.keys4
+returns-in-83 c = c.step_from.ensures ∙ form_at _ _ c.if-bytes-at.false _ _ (λ rest. refl) c.in-83.is
 
 pub returns-in-76 : goal.returns-in-76
 unfolding code_from
-returns-in-76 c = c.look_from.ensures ∙ form_at _ _ c.if-bytes-at.false _ _ (λ rest. refl) c.in-79.keys5
+returns-in-76 c = c.look_from.ensures ∙ form_at _ _ c.if-bytes-at.false _ _ (λ rest. refl) c.in-76.is
 
 pub returns-in-73 : goal.returns-in-73
 unfolding code_from
 returns-in-73 c =
     let a = c.args in
     whole_from inspect_form a.bytes.now (a.at + 1) 0 refl (omega arith) _ _ refl refl
-    ∙ form_at a.bytes.now a.at c.if-bytes-at.false inspect_form _ (λ rest. refl) c.in-79.keys6
+    ∙ form_at a.bytes.now a.at c.if-bytes-at.false inspect_form _ (λ rest. refl) c.in-73.is
 
 pub returns-in-112 : goal.returns-in-112
 unfolding code_from
-returns-in-112 c = c.put_from-in-112.ensures ∙ form_at _ _ c.if-bytes-at.false _ _ (λ rest. refl) c.in-79.keys7
+returns-in-112 c = c.put_from-in-112.ensures ∙ form_at _ _ c.if-bytes-at.false _ _ (λ rest. refl) c.in-112.is
 
 pub returns-in-103 : goal.returns-in-103
 unfolding code_from
-returns-in-103 c = c.get_from-in-103.ensures ∙ form_at _ _ c.if-bytes-at.false _ _ (λ rest. refl) c.in-79.keys8
+returns-in-103 c = c.get_from-in-103.ensures ∙ form_at _ _ c.if-bytes-at.false _ _ (λ rest. refl) c.in-103.is
 
 pub returns-in-108 : goal.returns-in-108
 unfolding code_from
-returns-in-108 c = c.look_from-in-108.ensures ∙ form_at _ _ c.if-bytes-at.false _ _ (λ rest. refl) c.in-79.keys9
+returns-in-108 c = c.look_from-in-108.ensures ∙ form_at _ _ c.if-bytes-at.false _ _ (λ rest. refl) c.in-108.is
 
 pub returns-in_default : goal.returns-in_default
 unfolding code_from

@@ -6,4 +6,4 @@ use Rattle.decoder.proofs.decode.get_at.Goals as goal
 pub returns : goal.returns
 returns c =
     let a = c.args in
-    get_is a.bytes.now a.at a.width c.number-process.result c.key_at-key.result c.number-process.ensures.0 c.key_at-key.ensures
+    get_is a.bytes.now a.at a.width c.number-process.result c.key_at-key.result c.number-process.ensures.value c.key_at-key.ensures

@@ -14,5 +14,5 @@ returns c =
     let l = a.bytes.now in
     let whole : a.width - 4 + 4 ≡ a.width = omega arith in
     c.joined.ensures
-    ∙ simp (c.number-low.ensures.0, c.number-high.ensures.0)
+    ∙ simp (c.number-low.ensures.value, c.number-high.ensures.value)
     (sym (low_behind l a.at (a.width - 4) (omega arith)) ∙ ap (λ w. big_endian (take w (drop a.at l))) whole)

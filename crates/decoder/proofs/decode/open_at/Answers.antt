@@ -7,5 +7,5 @@ pub returns : goal.returns
 returns c =
     let a = c.args in
     open_is a.bytes.now a.at c.number-keys.result c.number-versions.result c.number-processes.result
-    c.number-limit.result c.number-keys.ensures.0 c.number-versions.ensures.0 c.number-processes.ensures.0
-    c.number-limit.ensures.0
+    c.number-limit.result c.number-keys.ensures.value c.number-versions.ensures.value c.number-processes.ensures.value
+    c.number-limit.ensures.value

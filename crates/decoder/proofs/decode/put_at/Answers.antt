@@ -10,5 +10,5 @@ returns c =
     let a = c.args in
     put_is a.bytes.now a.at a.width c.number-process.result c.key_at-key.result
     c.number-value.result c.number-timestamp.result c.number-draw.result (a.at + 1 + a.width) refl
-    c.number-process.ensures.0 c.key_at-key.ensures c.number-value.ensures.0
-    c.number-timestamp.ensures.0 c.number-draw.ensures.0
+    c.number-process.ensures.value c.key_at-key.ensures c.number-value.ensures.value
+    c.number-timestamp.ensures.value c.number-draw.ensures.value
