@@ -6,6 +6,7 @@ use borrow.Author.Tests.{ne_eqb}
 use Rattle.decoder.specs.Commands.{inspect_form, code_from}
 use Rattle.decoder.proofs.Decoding.{no_byte, byte_at, form_at, whole_from}
 use borrow.Author.Rules.{rules}
+use Rattle.std.proofs.Common.{rules, tests}
 use Rattle.decoder.proofs.decode.decode.Goals as goal
 
 pub returns-then-bytes-at : goal.returns-then-bytes-at
@@ -52,18 +53,4 @@ returns-in-108 c = c.look_from-in-108.ensures ∙ form_at _ _ c.if-bytes-at.fals
 
 pub returns-in_default : goal.returns-in_default
 unfolding code_from
-returns-in_default c =
-    let h = c.in-79.rest in
-    let a = c.args in
-    simp (
-      byte_at a.bytes.now a.at c.if-bytes-at.false,
-      ne_eqb _ _ h.0.0.0.0.0.0.0.0.1,
-      ne_eqb _ _ h.0.0.0.0.0.0.0.1,
-      ne_eqb _ _ h.0.0.0.0.0.0.1,
-      ne_eqb _ _ h.0.0.0.0.0.1,
-      ne_eqb _ _ h.0.0.0.0.1,
-      ne_eqb _ _ h.0.0.0.1,
-      ne_eqb _ _ h.0.0.1,
-      ne_eqb _ _ h.0.1,
-      ne_eqb _ _ h.1,
-    )
+returns-in_default c = rw (byte_at c.args.bytes.now c.args.at c.if-bytes-at.false) (search (rules, tests))
