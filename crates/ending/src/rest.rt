@@ -8,6 +8,7 @@ use decoder::types::Decoded;
 use model::types::Refusal;
 
 // `ended` tells whether the sheet has no more bytes than these.
+#[tactic(auto, unfolding(crate::specs::Rest::rest_by, crate::specs::Rest::rest_of))]
 pub fn rest(bytes: &[u8], read: usize, ended: bool) -> Rest
     ensures { result ≡ rest_of bytes.now read ended }
 {

@@ -73,6 +73,7 @@ pub fn is_state_at(words: &[u32], process: u32) -> bool
 }
 
 // Nodes and versions in use.
+#[tactic(auto, unfolding(crate::specs::StateWords::state_from))]
 pub fn counts_in(words: &[u32]) -> Counts
     requires { length words.now ≡ sizes.state }
     ensures { result ≡ (state_from words.now).counts }
@@ -84,6 +85,7 @@ pub fn counts_in(words: &[u32]) -> Counts
 }
 
 // The processes, one after another.
+#[tactic(auto, unfolding(crate::specs::StateWords::all_from))]
 fn processes_in(words: &[u32]) -> [Process; State::PROCESSES as usize]
     requires { length words.now ≡ sizes.state }
     ensures { result ≡ all_from limits.processes (drop sizes.head words.now) }
@@ -100,6 +102,7 @@ fn processes_in(words: &[u32]) -> [Process; State::PROCESSES as usize]
     process
 }
 
+#[tactic(auto, unfolding(crate::specs::StateWords::state_from))]
 pub fn state_in(words: &[u32]) -> State
     requires { length words.now ≡ sizes.state }
     ensures { result ≡ state_from words.now }
@@ -136,6 +139,7 @@ fn put_head(words: &mut [u32], s: State)
     words[HeadOffsets::VERSIONS] = s.counts.versions;
 }
 
+#[tactic(auto, unfolding(crate::specs::StateWords::all_words))]
 fn put_processes(words: &mut [u32], process: [Process; State::PROCESSES as usize])
     requires { length words.old ≡ sizes.state }
     ensures { words.new ≡ take sizes.head words.old ++ all_words process }

@@ -11,6 +11,7 @@ use tables::nodes::{ahead, newest_at};
 use versiontable::versions::version_at;
 
 // One level down, or the end of the walk; `found` is the node that has the key, or 0.
+#[tactic(auto, unfolding(model::specs::Phases::descend, model::specs::Phases::walked))]
 fn descend(call: Call, c: Cursor, tick: u32, found: u32) -> Move
     ensures { result ≡ descend call c tick found }
 {
@@ -40,6 +41,7 @@ fn descend(call: Call, c: Cursor, tick: u32, found: u32) -> Move
     }
 }
 
+#[tactic(auto, unfolding(model::specs::Phases::walk_by, model::specs::Phases::walk_of))]
 pub fn walk(call: Call, c: Cursor, tick: u32, used: u32, nodes: &[u32]) -> Move
     requires { Ready nodes.now used c }
     ensures { (versions : List ℕ) (n : ℕ) → result ≡ walk_of call c tick (nodes_in nodes.now used versions n) }
@@ -54,6 +56,7 @@ pub fn walk(call: Call, c: Cursor, tick: u32, used: u32, nodes: &[u32]) -> Move
 }
 
 // `last` is the last version in use.
+#[tactic(auto, unfolding(model::specs::Phases::read_of))]
 pub fn read(c: Cursor, tick: u32, used: u32, last: u32, nodes: &[u32], versions: &[u32]) -> Move
     requires ready { Ready nodes.now used c }
     requires version_room { VersionRoom versions.now last }
@@ -70,6 +73,7 @@ pub fn read(c: Cursor, tick: u32, used: u32, last: u32, nodes: &[u32], versions:
     }
 }
 
+#[tactic(auto, unfolding(model::specs::Phases::seek_by, model::specs::Phases::seek_of))]
 pub fn seek(call: Call, c: Cursor, used: u32, nodes: &[u32]) -> Move
     requires { Ready nodes.now used c }
     ensures { (versions : List ℕ) (n : ℕ) → result ≡ seek_of call c (nodes_in nodes.now used versions n) }

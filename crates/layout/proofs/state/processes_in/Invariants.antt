@@ -1,0 +1,19 @@
+-- Those read stand at the front.
+use Prim.Native.Nat.{◌+◌, ◌*◌, ◌-◌, ◌≤◌}
+use mathlib.Core.Path.{◌≡◌, refl, sym, ap, ◌∙◌}
+use native.Mathlib.Omega.{arith}
+use lib.ListN.{length, take, drop, length-set}
+use lib.Seq.{take_all}
+use Rattle.model.specs.Layout.{limits}
+use Rattle.process.specs.ProcessWords.{sizes, process_from}
+use Rattle.layout.specs.StateWords.{all_from}
+use Rattle.layout.proofs.Known.{part_is}
+use Rattle.layout.proofs.Whole.{read_next}
+use Rattle.layout.proofs.state.processes_in.Given as goal
+
+abbrev pub invariant-loop-i : goal.invariant-loop-i
+invariant-loop-i l =
+    (l.i ≤ limits.processes) × (l.at ≡ sizes.head + sizes.process * l.i) × (take l.i l.process ≡ all_from l.i (drop sizes.head l.words)) × (length l.process ≡ limits.processes)
+
+abbrev pub decreases-loop-i : goal.decreases-loop-i
+decreases-loop-i l = limits.processes - l.i
