@@ -11,6 +11,7 @@ use tables::nodes::{key_at, newest_at, next_at};
 use versiontable::versions::version_at;
 
 // A node of the range is shown, if its newest version is in use.
+#[tactic(auto, unfolding(model::specs::Phases::show_at))]
 fn show_at(c: Cursor, node: u32, counts: Counts, nodes: &[u32], versions: &[u32]) -> Move
     requires node_room { NodeRoom nodes.now node }
     requires version_room { VersionRoom versions.now counts.versions }
@@ -42,6 +43,7 @@ fn end() -> Move
 }
 
 // The node ahead: past the range, before it, or in it. A node before it was made since the walk.
+#[tactic(auto, unfolding(model::specs::Phases::follow_at))]
 fn follow_at(
     call: Call,
     c: Cursor,
@@ -65,6 +67,7 @@ fn follow_at(
 }
 
 // One link of level 0, whatever the cursor's level.
+#[tactic(auto, unfolding(model::specs::Phases::follow_of))]
 pub fn follow(call: Call, c: Cursor, counts: Counts, nodes: &[u32], versions: &[u32]) -> Move
     requires ready { Ready nodes.now counts.nodes c }
     requires version_room { VersionRoom versions.now counts.versions }

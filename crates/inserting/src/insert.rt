@@ -24,6 +24,7 @@ fn insert(nodes: &mut [u32], pred: u32, node: u32, key: Key, version: u32, top: 
 }
 
 // The new node, with the call's version, behind the predecessor.
+#[tactic(auto, unfolding(model::specs::Phases::add_node))]
 fn add_node(
     call: Call,
     c: Cursor,
@@ -47,6 +48,7 @@ fn add_node(
     }
 }
 
+#[tactic(auto, unfolding(model::specs::Phases::make_of))]
 pub fn make(
     call: Call,
     c: Cursor,
@@ -79,6 +81,7 @@ pub fn make(
 }
 
 // The new node behind the predecessor at the cursor's level.
+#[tactic(auto, unfolding(model::specs::Phases::add_link, model::specs::Phases::link_of))]
 pub fn link(c: Cursor, used: u32, nodes: &mut [u32]) -> Move
     requires { Ready nodes.old used c }
     ensures { (versions : List ℕ) (n : ℕ) → moved (nodes_in nodes.new used versions n) result

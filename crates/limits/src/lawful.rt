@@ -17,6 +17,7 @@ pub fn lawful_key(key: Key) -> bool
 }
 
 // The length of a node table, in words.
+#[tactic(auto, unfolding(model::specs::State::lawful_length))]
 pub fn lawful_nodes(n: usize) -> bool
     ensures { result ≡ lawful_nodes n }
 {
@@ -26,6 +27,7 @@ pub fn lawful_nodes(n: usize) -> bool
 }
 
 // The length of a version table, in words.
+#[tactic(auto, unfolding(model::specs::State::lawful_length))]
 pub fn lawful_versions(n: usize) -> bool
     ensures { result ≡ lawful_versions n }
 {
@@ -57,6 +59,7 @@ fn wide(n: u32) -> usize
 }
 
 // Left at the first fault: every step asks this.
+#[tactic(auto, unfolding(model::specs::State::lawful_state))]
 pub fn lawful_state(h: &[u32]) -> bool
     requires { length h.now ≡ header_words }
     ensures { (s : State) → header_of s ≡ h.now → result ≡ lawful_state s }
@@ -90,6 +93,7 @@ pub fn lawful_state(h: &[u32]) -> bool
 }
 
 // The state is lawful, and the tables lent are of its lengths.
+#[tactic(auto, unfolding(model::specs::State::lawful_store))]
 pub fn lawful_store(h: &[u32], nodes: &[u32], versions: &[u32]) -> bool
     requires { length h.now ≡ header_words }
     ensures { (s : State) → header_of s ≡ h.now → result ≡ lawful_store s nodes.now versions.now }

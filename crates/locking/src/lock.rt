@@ -11,6 +11,7 @@ use tables::nodes::{ahead, lock_at, set_lock};
 use values::roles::{is_new, version_with};
 
 // The lock phase.
+#[tactic(auto, unfolding(model::specs::Phases::lock_of))]
 pub fn acquire(c: Cursor, holder: u32, nodes: &mut [u32]) -> Move
     requires { LevelRoom nodes.old c.level c.pred }
     ensures { (versions : List ℕ) (counts : Counts) → moved (memory nodes.new versions counts) result
@@ -35,6 +36,7 @@ fn settle(c: Cursor, bottom: Phase) -> Move
     }
 }
 
+#[tactic(auto, unfolding(model::specs::Phases::check_by, model::specs::Phases::check_of))]
 pub fn check(call: Call, c: Cursor, used: u32, nodes: &mut [u32]) -> Move
     requires { Ready nodes.old used c }
     ensures { (versions : List ℕ) (n : ℕ) → moved (nodes_in nodes.new used versions n) result
@@ -53,6 +55,7 @@ pub fn check(call: Call, c: Cursor, used: u32, nodes: &mut [u32]) -> Move
 }
 
 // One level up, at the node remembered there.
+#[tactic(auto, unfolding(model::specs::Phases::rise))]
 fn rise(call: Call, c: Cursor, used: u32, preds: [u32; State::LEVELS], otherwise: Move) -> Move
     ensures { (nodes versions : List ℕ) (n : ℕ) → result ≡ rise call c preds (nodes_in nodes used versions n) otherwise }
 {
@@ -72,6 +75,7 @@ fn rise(call: Call, c: Cursor, used: u32, preds: [u32; State::LEVELS], otherwise
     }
 }
 
+#[tactic(auto, unfolding(model::specs::Phases::released))]
 fn released(call: Call, c: Cursor, e: Effect, used: u32, preds: [u32; State::LEVELS]) -> Move
     ensures { (nodes versions : List ℕ) (n : ℕ) → result ≡ released call c e preds (nodes_in nodes used versions n) }
 {
@@ -90,6 +94,7 @@ fn released(call: Call, c: Cursor, e: Effect, used: u32, preds: [u32; State::LEV
 }
 
 // The lock is freed, unless the step is refused.
+#[tactic(auto, unfolding(model::specs::Phases::freed, model::specs::Phases::release_of))]
 pub fn release(
     call: Call,
     c: Cursor,

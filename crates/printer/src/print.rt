@@ -113,6 +113,7 @@ impl Line {
 
     // The line from `at` on; the answer is the position after it. Where fewer than `ROOM` bytes are left, nothing is
     // written and the position stays.
+    #[tactic(auto, unfolding(crate::specs::Lines::print_of))]
     pub fn print(self, out: &mut [u8], at: usize) -> usize
         ensures result_after { record { bytes = out.new; next = result } ≡ print_of out.old at self }
         ensures upper_bound { at ≤ length out.old → result ≤ length out.old }

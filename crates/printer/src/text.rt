@@ -33,6 +33,7 @@ fn number_at(key: u64, numbers: [u32; 6], b: u8) -> u64
 }
 
 // A format up to its first dot, with the key and the numbers in their places.
+#[tactic(auto, unfolding(crate::specs::Sentences::byte_case, crate::specs::Sentences::filled, crate::specs::Sentences::piece))]
 fn put_half(out: &mut [u8], at: usize, format: Format, key: u64, numbers: [u32; 6]) -> usize
     requires { at + length (filled key numbers format) ≤ length out.old }
     ensures { Wrote out.old out.new at result (filled key numbers format) }

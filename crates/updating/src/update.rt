@@ -11,6 +11,7 @@ use tables::nodes::{newest_at, next_at, set_newest};
 use versiontable::versions::{timestamp_at, versions_full, write_version};
 
 // The call's version in front of a node's.
+#[tactic(auto, unfolding(model::specs::Phases::add_version))]
 fn add_version(
     call: Call,
     node: u32,
@@ -34,6 +35,7 @@ fn add_version(
 }
 
 // The put on a node whose newest version is in use.
+#[tactic(auto, unfolding(model::specs::Phases::update_node))]
 fn update_node(
     call: Call,
     c: Cursor,
@@ -60,6 +62,7 @@ fn update_node(
 }
 
 // The put on the node that the predecessor's link at level 0 leads to.
+#[tactic(auto, unfolding(model::specs::Phases::update_at, model::specs::Phases::update_of))]
 pub fn update(
     call: Call,
     c: Cursor,
