@@ -7,7 +7,19 @@ use borrow.Author.Rules.{rules}
 use Rattle.inserting.proofs.insert.make.Goals as goal
 
 pub add_node-more-requires-clause-node_spare : goal.add_node-more-requires-clause-node_spare
-add_node-more-requires-clause-node_spare c = ?
+add_node-more-requires-clause-node_spare c =
+    let a = c.args in
+    let v = sym c.versions_full.ensures ∙ c.if-versions_full.false in
+    let n = sym c.nodes_full.ensures ∙ c.if-nodes_full.false in
+    let r = version_room a.versions.now a.counts.versions v in
+    let q = node_room a.nodes.now a.counts.nodes n in
+    search rules
 
 pub add_node-more-requires-clause-version_spare : goal.add_node-more-requires-clause-version_spare
-add_node-more-requires-clause-version_spare c = ?
+add_node-more-requires-clause-version_spare c =
+    let a = c.args in
+    let v = sym c.versions_full.ensures ∙ c.if-versions_full.false in
+    let n = sym c.nodes_full.ensures ∙ c.if-nodes_full.false in
+    let r = version_room a.versions.now a.counts.versions v in
+    let q = node_room a.nodes.now a.counts.nodes n in
+    search rules
