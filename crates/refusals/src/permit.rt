@@ -30,6 +30,7 @@ fn or_if(given: Permit, met: bool, refusal: Refusal) -> Permit
     }
 }
 
+#[tactic(auto, unfolding(model::specs::Calls::open_due))]
 pub fn open_permit(nodes: &[u32], versions: &[u32], processes: u32, limit: u32) -> Permit
     ensures { result ≡ open_permit nodes.now versions.now processes limit }
 {
@@ -102,6 +103,7 @@ pub fn step_permit(
     Permit::Granted
 }
 
+#[tactic(auto, unfolding(model::specs::Calls::look_permit))]
 pub fn look_permit(h: &[u32], nodes: &[u32], versions: &[u32], key: Key) -> Permit
     requires { length h.now ≡ header_words }
     ensures { (s : State) → header_of s ≡ h.now → result ≡ look_permit s nodes.now versions.now key }
@@ -112,6 +114,7 @@ pub fn look_permit(h: &[u32], nodes: &[u32], versions: &[u32], key: Key) -> Perm
     or_if(ten, !in_range, Refusal::BadKey)
 }
 
+#[tactic(auto, unfolding(model::specs::Calls::status_permit))]
 pub fn status_permit(h: &[u32], process: u32) -> Permit
     requires { length h.now ≡ header_words }
     ensures { (s : State) → header_of s ≡ h.now → result ≡ status_permit s process }

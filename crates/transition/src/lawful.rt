@@ -39,6 +39,7 @@ fn lawful_effect(kind: Kind, role: Role, e: Effect) -> bool
     }
 }
 
+#[tactic(auto, unfolding(model::specs::Phases::lawful_at))]
 fn lawful_at(kind: Kind, role: Role, e: Effect) -> bool
     ensures { result ≡ lawful_at kind role e }
 {
@@ -50,6 +51,7 @@ fn lawful_at(kind: Kind, role: Role, e: Effect) -> bool
 }
 
 // `used` is the last node in use. Left at the first fault: every step asks this.
+#[tactic(auto, unfolding(model::specs::Phases::lawful_process))]
 pub fn lawful(call: Call, c: Cursor, e: Effect, used: u32) -> bool
     ensures { (preds nodes versions : List ℕ) (n : ℕ) → result ≡ lawful_process (process call c e preds) (nodes_in nodes used versions n) }
 {

@@ -23,6 +23,7 @@ fn with(mv: Move, counts: Counts) -> Transition
 }
 
 // The step of the call's phase.
+#[tactic(auto, unfolding(model::specs::Phases::phase_of))]
 fn by_phase(
     w: &[u32],
     counts: Counts,
@@ -63,6 +64,7 @@ fn by_phase(
 }
 
 // One step of a call: `holder` is the process's number plus 1, `tick` that of this event.
+#[tactic(auto, unfolding(model::specs::Phases::transition_of))]
 pub fn transition(
     w: &[u32],
     counts: Counts,
