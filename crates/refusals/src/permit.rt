@@ -126,6 +126,7 @@ pub fn status_permit(h: &[u32], process: u32) -> Permit
 }
 
 // Whether none of the first `n` processes has a call.
+#[tactic(auto, unfolding(model::specs::Inspection::idle_below))]
 fn idle_below(s: State, n: u32) -> bool
     requires { n ≤ limits.processes }
     ensures { result ≡ idle_below s n }
@@ -145,6 +146,7 @@ fn idle_below(s: State, n: u32) -> bool
     true
 }
 
+#[tactic(auto, unfolding(model::specs::Inspection::inspect_permit))]
 pub fn inspect_permit(s: State, nodes: &[u32], versions: &[u32]) -> Permit
     ensures { result ≡ inspect_permit s nodes.now versions.now }
 {
