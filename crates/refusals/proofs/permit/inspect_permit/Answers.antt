@@ -6,9 +6,6 @@ use Rattle.refusals.proofs.Laws.{lawful_store_lem}
 use borrow.Author.Rules.{rules}
 use Rattle.refusals.proofs.permit.inspect_permit.Goals as goal
 
-)
-)
-
 pub idle_below-requires : goal.idle_below-requires
 idle_below-requires c =
     let a = c.args in
