@@ -42,6 +42,7 @@ fn finish(
 
 // `counts` are those that the transition left. Each arm writes all that its move does, so that the compiled code goes from the
 // phase that made the move straight to it, and writes no word that stays.
+#[tactic(auto, unfolding(model::specs::Calls::outcome_of, model::specs::Calls::tally_after))]
 pub fn leave(
     words: &mut [u32],
     at: usize,

@@ -17,6 +17,7 @@ fn remember(p: Process) -> [u32; State::LEVELS]
     preds
 }
 
+#[tactic(auto, unfolding(model::specs::Calls::process_after))]
 pub fn process_after(tick: u32, p: Process, mv: Move) -> Process
     requires { p.cursor.level ≤ top_level }
     ensures { result ≡ process_after tick p mv }
@@ -61,6 +62,7 @@ pub fn process_after(tick: u32, p: Process, mv: Move) -> Process
     }
 }
 
+#[tactic(auto, unfolding(model::specs::Calls::outcome_of))]
 pub fn outcome_of(tick: u32, call: Call, mv: Move) -> Stepping
     ensures { result ≡ outcome_of tick call mv }
 {
@@ -85,6 +87,7 @@ pub fn outcome_of(tick: u32, call: Call, mv: Move) -> Stepping
 }
 
 // A move that ends its call is counted.
+#[tactic(auto, unfolding(model::specs::Calls::tally_after))]
 pub fn count_end(tally: &mut [u32], mv: Move)
     requires { length tally.old ≡ limits.tally }
     ensures { tally.new ≡ tally_after tally.old mv }

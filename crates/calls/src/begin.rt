@@ -5,6 +5,7 @@ ghost use Rattle.model.specs.Calls.{top_of, begun};
 use model::types::{Answer, Call, Cursor, Effect, Phase, Process, State};
 
 // The top level that a draw gives.
+#[tactic(auto, unfolding(model::specs::Calls::top_of))]
 pub fn top_of(draw: u16) -> u32
     ensures { result ≡ top_of draw }
 {

@@ -56,6 +56,7 @@ fn inspect_levels(counts: Counts, nodes: &[u32], versions: &[u32]) -> Inspecting
 }
 
 // Sound, or the level and the node reached at the first fault.
+#[tactic(auto, unfolding(model::specs::Inspection::inspect_by, model::specs::Inspection::inspect_of))]
 pub fn inspect(s: State, nodes: &[u32], versions: &[u32]) -> Inspecting
     ensures { result ≡ inspect_of s nodes.now versions.now }
 {

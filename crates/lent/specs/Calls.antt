@@ -21,7 +21,7 @@ use Rattle.model.specs.Requests.{Operation}
 use Rattle.process.specs.ProcessWords.{sizes}
 use Rattle.layout.specs.StateWords.{state_words, state_from, known_head, is_state_below, is_state_at, written}
 use Rattle.apply.specs.Leave.{evented}
-use Rattle.store.specs.Contracts.{start_with}
+use Rattle.store.specs.Clauses.{start_with}
 
 -- ---- open: whatever stood in the words, as long as there are enough of them
 

@@ -47,6 +47,7 @@ fn version_back(versions: &[u32], from: u32, back: u32) -> Looking
 }
 
 // A look at the node that has the key, or at none where it is 0.
+#[tactic(auto, unfolding(model::specs::Calls::look_node))]
 fn look_node(counts: Counts, nodes: &[u32], versions: &[u32], back: u32, node: u32) -> Looking
     requires lent { Lent nodes.now versions.now counts }
     requires node_room { NodeRoom nodes.now node }
@@ -65,6 +66,7 @@ fn look_node(counts: Counts, nodes: &[u32], versions: &[u32], back: u32, node: u
 }
 
 // A look that is let pass. Of the state it reads no more than the counts, so that words are not decoded for it.
+#[tactic(auto, unfolding(model::specs::Calls::look_by))]
 pub fn look_granted(counts: Counts, nodes: &[u32], versions: &[u32], key: Key, back: u32) -> Looking
     requires { Lent nodes.now versions.now counts }
     ensures { result ≡ look_by Granted (memory nodes.now versions.now counts) key back }

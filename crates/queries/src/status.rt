@@ -8,6 +8,7 @@ use refusals::permit::status_permit;
 use values::roles::is_idle;
 
 // A call shows what it is and its ticks, and nothing of where it stands: that is no answer yet.
+#[tactic(auto, unfolding(model::specs::Calls::standing))]
 pub fn standing(p: Process) -> Status
     ensures { result ≡ standing p.call.kind p }
 {
@@ -21,6 +22,7 @@ pub fn standing(p: Process) -> Status
 }
 
 // Idle, or the call that runs. It is asked of the state alone, so that no table has to be at hand.
+#[tactic(auto, unfolding(model::specs::Calls::status_by, model::specs::Calls::status_of))]
 pub fn status(s: State, process: u32) -> Status
     ensures { result ≡ status_of s process }
 {

@@ -1,7 +1,7 @@
 // Opening: both tables zeroed, and a fresh state.
 ghost use Rattle.std.specs.Prelude.{◌≡◌};
 ghost use Rattle.model.specs.Calls.{open_of};
-ghost use Rattle.store.specs.Contracts.{opened};
+ghost use Rattle.store.specs.Clauses.{opened};
 
 use model::types::{Lengths, OpenResult, Opening, Permit, State};
 use refusals::permit::open_permit;

@@ -2,7 +2,7 @@
 ghost use Rattle.std.specs.Prelude.{◌≡◌};
 ghost use Rattle.model.specs.Requests.{put, get, scan};
 ghost use Rattle.model.specs.Calls.{start_of};
-ghost use Rattle.store.specs.Contracts.{timed, start_with};
+ghost use Rattle.store.specs.Clauses.{timed, start_with};
 
 use calls::begin::{begin, top_of};
 use calls::slot::slot;

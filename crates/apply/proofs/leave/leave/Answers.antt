@@ -1,0 +1,57 @@
+-- Each arm's move is known: what it leaves of the process in its part, and the event, by `left_moved`.
+use Prim.Native.Nat.{◌+◌, ◌-◌, ◌≤◌}
+use mathlib.Core.Bool.{true}
+use mathlib.Core.Path.{◌≡◌, refl, sym, ap, subst, ◌∙◌}
+use native.Mathlib.Omega.{arith}
+use lib.ListN.{length, take, drop}
+use Rattle.model.specs.Layout.{top_level}
+use Rattle.model.specs.Calls.{outcome_of, tally_after}
+use Rattle.model.specs.Phases.{refuses}
+use Rattle.process.specs.ProcessWords.{sizes, process_from, known_process}
+use Rattle.layout.proofs.Known.{part_is, part_long}
+use Rattle.apply.proofs.Left.{left_refused, left_moved, left_waits, left_goes}
+use borrow.Author.Rules.{rules}
+use Rattle.apply.proofs.leave.leave.Goals as goal
+
+pub returns-in-Wait : goal.returns-in-Wait
+returns-in-Wait c =
+    let a = c.args in
+    let fits : a.at + sizes.process ≤ length a.words.now = omega (arith, c.requires.words_len, c.requires.process_bound) in
+    rw c.in-Wait.is (left_waits a.words.now _ a.at a.tick a.counts fits c.requires.words_value _
+    c.put_event.ensures)
+
+pub returns-in-Go : goal.returns-in-Go
+returns-in-Go c =
+    let a = c.args in
+    let fits : a.at + sizes.process ≤ length a.words.now = omega (arith, c.requires.words_len, c.requires.process_bound) in
+    let p = c.put_cursor in
+    left_goes a.words.now _ a.at a.tick a.counts fits c.requires.words_value _ _ p.new.w _
+    c.in-Go.is p.ensures (p.auto.w ∙ part_long a.words.now a.at fits)
+    c.put_event-in-Go.ensures
+
+pub returns-in-Note : goal.returns-in-Note
+unfolding outcome_of tally_after
+returns-in-Note c =
+    let a = c.args in
+    let fits : a.at + sizes.process ≤ length a.words.now = omega (arith, c.requires.words_len, c.requires.process_bound) in
+    let p = c.apply_note in
+    rw c.in-Note.is (left_moved a.words.now _ a.at a.tick a.counts fits _ p.new.w _ _ _ refl
+    (p.ensures a.tick) (p.auto.w ∙ part_long a.words.now a.at fits) c.put_event-in-Note.ensures refl refl)
+
+pub returns-in-Commit : goal.returns-in-Commit
+unfolding outcome_of tally_after
+returns-in-Commit c =
+    let a = c.args in
+    let fits : a.at + sizes.process ≤ length a.words.now = omega (arith, c.requires.words_len, c.requires.process_bound) in
+    let p = c.apply_commit in
+    rw c.in-Commit.is (left_moved a.words.now _ a.at a.tick a.counts fits _ p.new.w _ _ _ refl
+    p.ensures (p.auto.w ∙ part_long a.words.now a.at fits) c.put_event-in-Commit.ensures refl refl)
+
+pub returns-in-Show : goal.returns-in-Show
+unfolding outcome_of tally_after
+returns-in-Show c =
+    let a = c.args in
+    let fits : a.at + sizes.process ≤ length a.words.now = omega (arith, c.requires.words_len, c.requires.process_bound) in
+    let p = c.apply_show in
+    rw c.in-Show.is (left_moved a.words.now _ a.at a.tick a.counts fits _ p.new.w _ _ _ refl
+    (p.ensures a.tick _) (p.auto.w ∙ part_long a.words.now a.at fits) c.put_event-in-Show.ensures refl refl)

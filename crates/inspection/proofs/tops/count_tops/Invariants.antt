@@ -1,0 +1,17 @@
+-- The loop keeps the counts over the x nodes passed.
+use Prim.Native.Nat.{◌-◌, ◌≤◌}
+use mathlib.Core.Path.{◌≡◌, refl, ◌∙◌}
+use native.Mathlib.Omega.{arith}
+use lib.Dec.{eqb}
+use lib.ListN.{length, length-set}
+use Rattle.model.specs.Layout.{levels, top}
+use Rattle.model.proofs.Counting.{count_most}
+use Rattle.inspection.specs.Tops.{TopCounts}
+use Rattle.inspection.proofs.TopTurns.{counts_none, counts_more, counts_same}
+use Rattle.inspection.proofs.tops.count_tops.Given as goal
+
+abbrev pub invariant-loop-x : goal.invariant-loop-x
+invariant-loop-x l = (l.x ≤ l.used) × (length l.counts ≡ levels) × TopCounts l.nodes l.x l.counts
+
+abbrev pub decreases-loop-x : goal.decreases-loop-x
+decreases-loop-x l = l.used - l.x
