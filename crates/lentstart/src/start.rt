@@ -80,6 +80,7 @@ fn start_in(
 }
 
 // A start reads the tables only for their lengths, and takes the top level from the draw at once, so that no draw is kept.
+#[tactic(auto, unfolding(lent::specs::Calls::start_in, model::specs::Calls::call_for, model::specs::Calls::start_of))]
 pub fn start_put_in(
     words: &mut [u32],
     nodes: &[u32],
@@ -109,6 +110,7 @@ pub fn start_put_in(
 }
 
 // A get keeps the record of a put, with what it does not use at 0.
+#[tactic(auto, unfolding(lent::specs::Calls::start_in, model::specs::Calls::call_for, model::specs::Calls::start_of))]
 pub fn start_get_in(
     words: &mut [u32],
     nodes: &[u32],
@@ -134,6 +136,7 @@ pub fn start_get_in(
 }
 
 // A scan of the keys from the first to the last.
+#[tactic(auto, unfolding(lent::specs::Calls::start_in, model::specs::Calls::call_for, model::specs::Calls::start_of))]
 pub fn start_scan_in(
     words: &mut [u32],
     nodes: &[u32],

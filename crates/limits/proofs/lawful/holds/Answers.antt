@@ -1,9 +1,6 @@
 -- The tests of the quotient are those of the length, left at the first that fails.
 use mathlib.Core.Path.{sym, ◌∙◌}
-use native.Mathlib.Nat.{mul-div-le}
-use native.Mathlib.Omega.{arith}
-use borrow.Author.Tests.{not-true, not-false, eq-eqb, ne_eqb}
-use borrow.Author.Rules.{rules}
+use borrow.Author.Tests.{eq-eqb, ne_eqb}
 use Rattle.limits.proofs.Laws.{one_division}
 use Rattle.limits.proofs.lawful.holds.Goals as goal
 

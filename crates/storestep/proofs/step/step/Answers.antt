@@ -10,11 +10,14 @@ use borrow.Author.Rules.{rules}
 use Rattle.calls.proofs.Places.{slot_below, slot_own}
 use Rattle.storestep.proofs.step.step.Goals as goal
 
--- the permit is the definition's: the kind was read at the process's own place
+-- in each, the permit is the definition's: the kind was read at the process's own place
 
 pub attempt-a-requires : goal.attempt-a-requires
 attempt-a-requires c g =
-    let f = may_step _ _ (permit-is c.before.before.before.before) g in
+    let a = c.args in
+    let is = c.step_permit-permit.ensures a.s
+        (record { same = sym c.header_of-h.ensures; found = λ h. simp (slot_own _ _ c.slot-i.ensures h) }) in
+    let f = may_step _ _ is g in
     let l = f.start.lawful in
     record {
       lent = l.lent;
@@ -24,14 +27,28 @@ attempt-a-requires c g =
     }
 
 pub overflow_add-s : goal.overflow_add-s
-overflow_add-s c = ?
+overflow_add-s c =
+    let a = c.args in
+    let is = c.step_permit-permit.ensures a.s
+        (record { same = sym c.header_of-h.ensures; found = λ h. simp (slot_own _ _ c.slot-i.ensures h) }) in
+    let g = attempt_passed _ _ _ (slot_own _ _ c.slot-i.ensures) _ is (advanced c.attempt-a.result _ _ _)
+        c.attempt-a.ensures (not-true _ c.if-not-a.true) in
+    let f = (may_step _ _ is g).start in
+    let l = f.lawful.limit in
+    omega (arith, f.event)
 
 pub returns-then-not-a : goal.returns-then-not-a
 returns-then-not-a c =
-    attempt_moves _ _ _ (slot_own _ _ c.slot-i.ensures) _ (permit-is c.before.before.before.before.before.before.before.before.before.before.before.before.before.before.before) (advanced c.attempt-a.result _ _ _)
-    c.attempt-a.ensures (c.if-not-a.true)
+    let a = c.args in
+    let is = c.step_permit-permit.ensures a.s
+        (record { same = sym c.header_of-h.ensures; found = λ h. simp (slot_own _ _ c.slot-i.ensures h) }) in
+    attempt_moves _ _ _ (slot_own _ _ c.slot-i.ensures) _ is (advanced c.attempt-a.result _ _ _)
+    c.attempt-a.ensures (not-true _ c.if-not-a.true)
 
 pub returns-else-not-a : goal.returns-else-not-a
 returns-else-not-a c =
-    attempt_stays _ _ _ (slot_own _ _ c.slot-i.ensures) _ (permit-is c.before.before.before.before.before.before.before.before.before.before.before.before.before) (advanced c.attempt-a.result _ _ _)
-    c.attempt-a.ensures (c.if-not-a.false)
+    let a = c.args in
+    let is = c.step_permit-permit.ensures a.s
+        (record { same = sym c.header_of-h.ensures; found = λ h. simp (slot_own _ _ c.slot-i.ensures h) }) in
+    attempt_stays _ _ _ (slot_own _ _ c.slot-i.ensures) _ is (advanced c.attempt-a.result _ _ _)
+    c.attempt-a.ensures (not-false _ c.if-not-a.false)
