@@ -27,6 +27,7 @@ fn clear_tally(outcome: Opening, tally: &mut [u32])
 }
 
 // An opening is lent tables of the size that it asks for, not those that the state has: each open replaces the store.
+#[tactic(auto, unfolding(crate::specs::Session::call_on, crate::specs::Session::open_on))]
 pub fn open_on(
     s: State,
     keys: u32,
@@ -101,6 +102,7 @@ pub fn get_on(s: State, process: u32, key: Key, nodes: &[u32], versions: &[u32])
 }
 
 // What a step leaves of the tables stands at the start of the buffers again: the words behind them are not lent.
+#[tactic(auto, unfolding(crate::specs::Session::call_on))]
 pub fn step_on(
     s: State,
     process: u32,
