@@ -9,6 +9,7 @@ use store::open::open;
 
 // Words of another number are refused and left: a state has no room in them. No other opening leaves the words as they
 // were: where it is refused they are a closed state.
+#[tactic(auto, unfolding(crate::specs::Calls::open_in))]
 pub fn open_in(
     words: &mut [u32],
     nodes: &mut [u32],

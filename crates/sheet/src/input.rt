@@ -63,7 +63,7 @@ fn took(state: State, bytes: &[u8], held: usize, input: Input) -> Run
 }
 
 // Moves the bytes that are held to the front, and reads behind them. There is room, so that nothing read is the input's end.
-pub fn refill(r: Run, bytes: &mut [u8]) -> Run
+pub fn refill(rt: &HostRuntime, r: Run, bytes: &mut [u8]) -> Run
     requires ready { Ready r (length bytes.old) }
     requires needs_value { r.needs ≡ Needs.Bytes }
     ensures ready_2 { Ready result (length bytes.old) }
@@ -72,6 +72,6 @@ pub fn refill(r: Run, bytes: &mut [u8]) -> Run
 {
     let state = r.state;
     let held = shift(bytes, r.from, r.end);
-    let input = read(&mut bytes[held..]);
+    let input = read(rt, &mut bytes[held..]);
     took(state, bytes, held, input)
 }

@@ -9,11 +9,14 @@ mod types;
 use crate::pages::run;
 use buffers::types::Buffers;
 
-fn main() {
+// How many bytes are read at once at most, and how many a page has.
+const PIECE: usize = 65_536;
+
+fn main(rt: HostRuntime) {
     let mut nodes = [0u32; Buffers::NODES];
     let mut versions = [0u32; Buffers::VERSIONS];
     let mut tally = [0u32; Buffers::TALLY];
-    let mut bytes = io::large_buffer();
-    let mut out = io::large_buffer();
-    run(&mut bytes, &mut nodes, &mut versions, &mut tally, &mut out);
+    let mut bytes = [0u8; PIECE];
+    let mut out = [0u8; PIECE];
+    run(&rt, &mut bytes, &mut nodes, &mut versions, &mut tally, &mut out);
 }

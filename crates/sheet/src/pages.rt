@@ -78,7 +78,7 @@ fn settle(written: bool, r: Run) -> Run
 }
 
 // More bytes, where they are needed.
-fn supply(r: Run, bytes: &mut [u8]) -> Run
+fn supply(rt: &HostRuntime, r: Run, bytes: &mut [u8]) -> Run
     requires { Ready r (length bytes.old) }
     ensures ready { Ready result (length bytes.old) }
     ensures supplied { Supplied result }
@@ -86,7 +86,7 @@ fn supply(r: Run, bytes: &mut [u8]) -> Run
 {
     let needs = r.needs;
     match needs {
-        Needs::Bytes => refill(r, bytes),
+        Needs::Bytes => refill(rt, r, bytes),
         Needs::Nothing => r,
         Needs::Page => r,
         Needs::Over => r,
@@ -106,6 +106,7 @@ fn is_over(needs: Needs) -> bool
 
 // A page of what can be played, and its lines written.
 fn print_page(
+    rt: &HostRuntime,
     r: Run,
     bytes: &[u8],
     nodes: &mut [u32],
@@ -123,7 +124,7 @@ fn print_page(
 {
     let q = play_page(r, bytes, nodes, versions, tally, out);
     let next = q.next;
-    let written = write(&out[..next]);
+    let written = write(rt, &out[..next]);
     settle(written, q)
 }
 
@@ -143,6 +144,7 @@ fn first() -> Run
 
 // Round after round, until the run is over. It counts its rounds down from a number that no run uses up.
 pub fn run(
+    rt: &HostRuntime,
     bytes: &mut [u8],
     nodes: &mut [u32],
     versions: &mut [u32],
@@ -158,12 +160,12 @@ pub fn run(
     let mut at = first();
     let mut rounds = u64::MAX;
     while 0 < rounds {
-        at = supply(at, bytes);
+        at = supply(rt, at, bytes);
         let needs = at.needs;
         if is_over(needs) {
             return at;
         }
-        at = print_page(at, bytes, nodes, versions, tally, out);
+        at = print_page(rt, at, bytes, nodes, versions, tally, out);
         rounds -= 1;
     }
     at

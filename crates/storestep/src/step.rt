@@ -14,6 +14,7 @@ use model::types::{Counts, Permit, Process, State, StepResult, Stepping};
 use refusals::permit::step_permit;
 
 // The step if it is let pass. `events` are those before it.
+#[tactic(auto, unfolding(crate::specs::Attempt::attempt_of))]
 fn attempt(
     permit: Permit,
     p: Process,

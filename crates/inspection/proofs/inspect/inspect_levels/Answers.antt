@@ -1,7 +1,7 @@
 -- The chain loop keeps: what is left of the pass gives the node's answer. The links loop keeps: what is left of the level's walk gives the
 -- level's. The levels loop keeps: what is left of the levels gives the inspection's. Places fall, fewer nodes lie ahead, levels are left.
 use Prim.Native.Nat.{ℕ, suc, ◌+◌, ◌-◌, ◌≤◌, ◌<◌}
-use mathlib.Core.Bool.{false}
+use mathlib.Core.Bool.{true, false}
 use mathlib.Core.Path.{◌≡◌, refl, ◌∙◌, sym}
 use native.Mathlib.Omega.{arith}
 use borrow.Author.Rules.{rules}
@@ -19,14 +19,25 @@ use Rattle.inspection.proofs.NodeTurns.{wrong, node_wrong, chain_starts, chain_w
 use Rattle.inspection.proofs.TopTurns.{reaching_all, reaching_less}
 use Rattle.inspection.proofs.inspect.inspect_levels.Goals as goal
 
--- ---- at the head of the links loop
--- ---- at a node without a fault of its own, and at the head of the loop along its chain
--- ---- behind the tests of a turn
--- a version that is passed
--- a chain that is passed to its end, and the link of its node
--- a link that is followed
--- a level without a fault
--- a level above it, which fewer nodes reach
+-- what a level's walk gives is what its loop has left, and the inspection is what the levels have left
+module _ (m : Memory) (lev node seen : ℕ) (low : lev ≤ top_level) (levels-left : inspection m ≡ levels_from m (levels - lev) lev)
+    (walk-left : level_from m lev (m.counts.nodes + 1) 0 0 ≡ level_from m lev (suc (ahead m lev node)) seen node) where
+  stops : level_from m lev (suc (ahead m lev node)) seen node ≡ Inspecting.Fault lev node → Inspecting.Fault lev node ≡ inspection m
+  stops e = sym (levels-left ∙ levels_stop m lev low node (walk-left ∙ e))
+
+  passes : level_from m lev (suc (ahead m lev node)) seen node ≡ Inspecting.Sound → inspection m ≡ levels_from m (levels - (lev + 1)) (lev + 1)
+  passes e = levels-left ∙ levels_go m lev low (walk-left ∙ e)
+
+-- at a node without a fault of its own: what its chain has left to pass
+module _ (m : Memory) (lev node version : ℕ) (faultless : node_fault m lev node ≡ false)
+    (chain-left : left m lev node (chain_start m.nodes lev node) ≡ left m lev node version) where
+  -- a chain that is passed to its end
+  right : version ≡ 0 → wrong m lev node ≡ false
+  right e = chain_right m lev node faultless (chain-left ∙ pass_ends m lev node version e)
+
+  -- one that is not
+  wrong_chain : left m lev node version ≡ Inspecting.Fault lev node → wrong m lev node ≡ true
+  wrong_chain e = chain_wrong m lev node faultless (chain-left ∙ e)
 
 pub levels-init : goal.levels-init
 unfolding inspection
@@ -43,45 +54,118 @@ links-init c =
 
 pub chain-init : goal.chain-init
 chain-init c =
-    (rw c.chain_start-version.ensures (chain_starts (mem n) (lev n) (node n) (faultless c.before)), rw c.chain_start-version.ensures)
+    let a = c.args in
+    let m = memory a.nodes.now a.versions.now a.counts in
+    let faultless = sym (c.node_fault.ensures m.versions) ∙ c.if-node_fault.false in
+    let e = c.chain_start-version.ensures in
+    (rw e (chain_starts m c.levels.level c.links.node faultless), rw e)
 
 pub chain-preserved : goal.chain-preserved
-chain-preserved c = let o = older c in (omega arith, (in-chain c).chain.invariant.1 ∙ o.1)
+chain-preserved c =
+    let a = c.args in
+    let m = memory a.nodes.now a.versions.now a.counts in
+    let o = pass_goes m c.levels.level c.links.node c.chain.version (λ z. omega arith) c.chain.invariant.0
+        _ c.prev_at-prev.ensures _ c.version_fault.ensures c.if-version_fault.false in
+    (omega arith, c.chain.invariant.1 ∙ o.1)
 
 pub links-smaller : goal.links-smaller
-links-smaller c = (onward c).nears
+links-smaller c =
+    let a = c.args in
+    let m = memory a.nodes.now a.versions.now a.counts in
+    let l = c.levels in
+    let k = c.links in
+    let faultless = sym (c.node_fault.ensures m.versions) ∙ c.if-node_fault.false in
+    let r = right m l.level k.node c.chain.version faultless c.chain.invariant.1 (omega arith) in
+    let o = level_goes m l.level k.seen k.node r _ c.next_at-next.ensures c.if-next-eq0.false
+        _ (c.link_fault.ensures m.versions m.counts.versions) c.if-link_fault.false in
+    o.nears
 
 pub links-preserved : goal.links-preserved
-links-preserved c = let o = onward c in (o.used, omega arith, (here (from c)).links.inv.2 ∙ o.goes)
+links-preserved c =
+    let a = c.args in
+    let m = memory a.nodes.now a.versions.now a.counts in
+    let l = c.levels in
+    let k = c.links in
+    let faultless = sym (c.node_fault.ensures m.versions) ∙ c.if-node_fault.false in
+    let r = right m l.level k.node c.chain.version faultless c.chain.invariant.1 (omega arith) in
+    let o = level_goes m l.level k.seen k.node r _ c.next_at-next.ensures c.if-next-eq0.false
+        _ (c.link_fault.ensures m.versions m.counts.versions) c.if-link_fault.false in
+    (o.used, omega arith, k.invariant.2 ∙ o.goes)
 
 pub overflow_sub-due : goal.overflow_sub-due
-overflow_sub-due c = ?
+overflow_sub-due c =
+    let rises : c.levels.level < top_level = omega arith in
+    let fewer = c.count_tops-tops.ensures c.levels.level rises in
+    let less = reaching_less c.args.nodes.now c.levels.level c.args.counts.nodes in
+    omega (arith, c.levels.invariant.1)
 
 pub levels-preserved : goal.levels-preserved
-levels-preserved c = (omega (arith, rises c), omega (arith, fewer c), whole c.before)
+levels-preserved c =
+    let a = c.args in
+    let m = memory a.nodes.now a.versions.now a.counts in
+    let l = c.levels in
+    let k = c.links in
+    let rises : c.levels.level < top_level = omega arith in
+    let fewer = c.count_tops-tops.ensures c.levels.level rises in
+    let less = reaching_less c.args.nodes.now c.levels.level c.args.counts.nodes in
+    let faultless = sym (c.node_fault.ensures m.versions) ∙ c.if-node_fault.false in
+    let r = right m l.level k.node c.chain.version faultless c.chain.invariant.1 (omega arith) in
+    let whole = passes m l.level k.node k.seen l.invariant.0 l.invariant.2 k.invariant.2
+        (level_whole m l.level k.seen k.node r _ c.next_at-next.ensures c.if-next-eq0.true _ l.invariant.1 (omega arith)) in
+    (omega arith, omega (arith, l.invariant.1), whole)
 
 pub returns-then-node_fault : goal.returns-then-node_fault
 returns-then-node_fault c =
-    let w = node_wrong (mem k) (lev k) (node k) (sym (c.node_fault.ensures (mem k).versions) ∙ c.if-node_fault.true) in
-    stops k (node_stops (mem k) (lev k) c.links.seen (node k) w)
+    let a = c.args in
+    let m = memory a.nodes.now a.versions.now a.counts in
+    let l = c.levels in
+    let k = c.links in
+    let w = node_wrong m l.level k.node (sym (c.node_fault.ensures m.versions) ∙ c.if-node_fault.true) in
+    stops m l.level k.node k.seen l.invariant.0 l.invariant.2 k.invariant.2 (node_stops m l.level k.seen k.node w)
 
 pub returns-then-version_fault : goal.returns-then-version_fault
 returns-then-version_fault c =
-    let n = at_node k in
-    chain-stopped k (pass_stops (mem n) (lev n) (node n) c.chain.version (λ z. omega arith) c.chain.invariant.0
-    _ c.prev_at-prev.ensures _ c.version_fault.ensures c.if-version_fault.true)
+    let a = c.args in
+    let m = memory a.nodes.now a.versions.now a.counts in
+    let l = c.levels in
+    let k = c.links in
+    let faultless = sym (c.node_fault.ensures m.versions) ∙ c.if-node_fault.false in
+    let w = wrong_chain m l.level k.node c.chain.version faultless c.chain.invariant.1
+        (pass_stops m l.level k.node c.chain.version (λ z. omega arith) c.chain.invariant.0
+        _ c.prev_at-prev.ensures _ c.version_fault.ensures c.if-version_fault.true) in
+    stops m l.level k.node k.seen l.invariant.0 l.invariant.2 k.invariant.2 (node_stops m l.level k.seen k.node w)
 
 pub returns-then-link_fault : goal.returns-then-link_fault
 returns-then-link_fault c =
-    let n = here k in
-    stops n (link_stops (mem n) (lev n) n.links.seen (node n) (right k) _ c.next_at-next.ensures c.if-next-eq0.false
-    _ (c.link_fault.ensures (mem n).versions (mem n).counts.versions) c.if-link_fault.true)
+    let a = c.args in
+    let m = memory a.nodes.now a.versions.now a.counts in
+    let l = c.levels in
+    let k = c.links in
+    let faultless = sym (c.node_fault.ensures m.versions) ∙ c.if-node_fault.false in
+    let r = right m l.level k.node c.chain.version faultless c.chain.invariant.1 (omega arith) in
+    stops m l.level k.node k.seen l.invariant.0 l.invariant.2 k.invariant.2
+    (link_stops m l.level k.seen k.node r _ c.next_at-next.ensures c.if-next-eq0.false
+    _ (c.link_fault.ensures m.versions m.counts.versions) c.if-link_fault.true)
 
 pub returns-then-seen-due : goal.returns-then-seen-due
 returns-then-seen-due c =
-    let n = here k in
-    stops n (level_short (mem n) (lev n) n.links.seen (node n) (right k) _ c.next_at-next.ensures c.if-next-eq0.true
-    _ n.before.levels.inv.1 (omega arith))
+    let a = c.args in
+    let m = memory a.nodes.now a.versions.now a.counts in
+    let l = c.levels in
+    let k = c.links in
+    let faultless = sym (c.node_fault.ensures m.versions) ∙ c.if-node_fault.false in
+    let r = right m l.level k.node c.chain.version faultless c.chain.invariant.1 (omega arith) in
+    stops m l.level k.node k.seen l.invariant.0 l.invariant.2 k.invariant.2
+    (level_short m l.level k.seen k.node r _ c.next_at-next.ensures c.if-next-eq0.true _ l.invariant.1 (omega arith))
 
 pub returns-then-level-eq-TOP : goal.returns-then-level-eq-TOP
-returns-then-level-eq-TOP c = let n = here (last c.before) in sym (whole c.before ∙ levels_end (mem n) (lev n + 1) (omega arith))
+returns-then-level-eq-TOP c =
+    let a = c.args in
+    let m = memory a.nodes.now a.versions.now a.counts in
+    let l = c.levels in
+    let k = c.links in
+    let faultless = sym (c.node_fault.ensures m.versions) ∙ c.if-node_fault.false in
+    let r = right m l.level k.node c.chain.version faultless c.chain.invariant.1 (omega arith) in
+    let whole = passes m l.level k.node k.seen l.invariant.0 l.invariant.2 k.invariant.2
+        (level_whole m l.level k.seen k.node r _ c.next_at-next.ensures c.if-next-eq0.true _ l.invariant.1 (omega arith)) in
+    sym (whole ∙ levels_end m (l.level + 1) (omega arith))

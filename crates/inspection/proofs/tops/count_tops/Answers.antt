@@ -17,7 +17,10 @@ pub loop-x-init : goal.loop-x-init
 loop-x-init c = (omega arith, refl, counts_none c.args.nodes.now)
 
 pub overflow_add-counts : goal.overflow_add-counts
-overflow_add-counts c = ?
+overflow_add-counts c =
+    let l = c.loop-x in
+    let t = c.top_at-top.result in
+    omega (arith, l.invariant.2 t (omega arith), count_most (λ x. eqb (top c.args.nodes.now x) t) l.x)
 
 pub loop-x-preserved-then-top-lt-TOP : goal.loop-x-preserved-then-top-lt-TOP
 loop-x-preserved-then-top-lt-TOP c =

@@ -5,17 +5,26 @@ use borrow.Author.Rules.{rules}
 use Rattle.store.proofs.open.open.Goals as goal
 
 pub overflow_cast-lengths : goal.overflow_cast-lengths
-overflow_cast-lengths c = ?
+overflow_cast-lengths c =
+    let a = c.args in
+    let f = may_open _ _ a.processes a.limit c.open_permit-permit.ensures c.in-Granted.is in
+    search rules
 
 pub overflow_cast-lengths-in-Granted : goal.overflow_cast-lengths-in-Granted
-overflow_cast-lengths-in-Granted c = ?
+overflow_cast-lengths-in-Granted c =
+    let a = c.args in
+    let f = may_open _ _ a.processes a.limit c.open_permit-permit.ensures c.in-Granted.is in
+    search rules
 
 pub clear_nodes-requires : goal.clear_nodes-requires
-clear_nodes-requires c = let f = may c.before in search rules
+clear_nodes-requires c =
+    let a = c.args in
+    let f = may_open _ _ a.processes a.limit c.open_permit-permit.ensures c.in-Granted.is in
+    search rules
 
 pub returns-in-Denied : goal.returns-in-Denied
 unfolding open_of open_by
-returns-in-Denied c = simp (c.closed-state.ensures, ← c.open_permit-permit.ensures, c.permit-1.given.1)
+returns-in-Denied c = simp (c.closed-state.ensures, ← c.open_permit-permit.ensures, c.in-Denied.is)
 
 pub returns-in-Granted : goal.returns-in-Granted
 unfolding open_of open_by

@@ -7,18 +7,29 @@ use borrow.Author.Rules.{rules}
 use Rattle.calls.proofs.Places.{slot_below, slot_own}
 use Rattle.store.proofs.start.start.Goals as goal
 
--- the permit is the definition's: the kind was read at the process's own place
-
+-- in each, the permit is the definition's: the kind was read at the process's own place
 pub overflow_add-tick : goal.overflow_add-tick
-overflow_add-tick c = ?
+overflow_add-tick c =
+    let a = c.args in
+    let is = c.start_permit-permit.ensures a.s
+        (record { same = sym c.header_of-h.ensures; found = λ h. simp (slot_own _ _ c.slot-i.ensures h) }) in
+    let f = may_start _ _ _ _ _ _ is c.in-Granted.is in
+    search rules
 
 pub returns-in-Denied : goal.returns-in-Denied
 unfolding start_by
-returns-in-Denied c = simp (← permit-is c.before.before.before, c.permit-1.given.1)
+returns-in-Denied c =
+    let a = c.args in
+    let is = c.start_permit-permit.ensures a.s
+        (record { same = sym c.header_of-h.ensures; found = λ h. simp (slot_own _ _ c.slot-i.ensures h) }) in
+    simp (← is, c.in-Denied.is)
 
 pub returns-in-Granted : goal.returns-in-Granted
 unfolding start_by
 returns-in-Granted c =
-    let f = may c.before in
+    let a = c.args in
+    let is = c.start_permit-permit.ensures a.s
+        (record { same = sym c.header_of-h.ensures; found = λ h. simp (slot_own _ _ c.slot-i.ensures h) }) in
+    let f = may_start _ _ _ _ _ _ is c.in-Granted.is in
     let i = slot_own _ _ c.slot-i.ensures (omega arith) in
-    simp (c.begin.ensures, i, ← permit-is c.before.before.before, c.in-Granted.is)
+    simp (c.begin.ensures, i, ← is, c.in-Granted.is)
