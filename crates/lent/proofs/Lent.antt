@@ -25,7 +25,7 @@ use Rattle.model.specs.System.{view_of}
 use Rattle.model.specs.ByValue.{Given, fresh_store, opens_by, by_value}
 use Rattle.model.specs.Linearizability.{Linearizable}
 use Rattle.model.proofs.Tests.{if-by, by_eq}
-use Rattle.linearizability.proofs.Linearized as by_value
+use Rattle.linearizability.proofs.Linearized as linearized
 use Rattle.linearizability.proofs.Simulated.{Same, SameOpening, Simulates, simulated}
 use Rattle.process.specs.ProcessWords.{sizes}
 use Rattle.layout.specs.StateWords.{state_words, state_from, is_state}
@@ -152,7 +152,7 @@ step_alike x o i =
 pub as_by_value : Simulates lent_words by_value (λ l. l.given) Holds
 as_by_value = record {
   asks = λ f lawful.
-      (let g = by_value.asks f lawful in
+      (let g = linearized.asks f lawful in
       (record { given = g.0; words = replicate sizes.state 0; long = length-replicate {A = ℕ} sizes.state 0 }, g.1));
   fits = λ l. refl;
   opens = opens_alike;
@@ -166,4 +166,4 @@ as_by_value = record {
 
 -- Demand 3 of the store in lent words, whatever they held before.
 pub linearizable : Linearizable lent_words
-linearizable = simulated lent_words by_value (λ l. l.given) Holds as_by_value by_value.linearizable
+linearizable = simulated lent_words by_value (λ l. l.given) Holds as_by_value linearized.linearizable

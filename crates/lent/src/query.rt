@@ -13,7 +13,6 @@ use queries::status::standing;
 use refusals::permit::{look_permit, status_permit};
 
 // The version of a key that lies `back` places behind its newest. It reads the head and no process.
-#[tactic(auto, unfolding(model::specs::Calls::look_by))]
 pub fn look_in(words: &[u32], nodes: &[u32], versions: &[u32], key: Key, back: u32) -> Looking
     ensures { result ≡ look_in words.now nodes.now versions.now key back }
 {
@@ -48,7 +47,6 @@ pub fn inspect_in(words: &[u32], nodes: &[u32], versions: &[u32]) -> Inspecting
 }
 
 // What a process does. It is lent no tables, so that their lengths are not compared with those in the state.
-#[tactic(auto, unfolding(model::specs::Calls::status_by))]
 pub fn status_in(words: &[u32], process: u32) -> Status
     ensures { result ≡ status_in words.now process }
 {

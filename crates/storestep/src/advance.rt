@@ -14,7 +14,6 @@ use transition::step::transition;
 
 // The process after its step, for the caller to put back: where the step is refused, as it was. `holder` is the process's
 // number plus 1, `tick` that of this event.
-#[tactic(auto, unfolding(calls::specs::Advance::advance_of))]
 pub fn advance(
     p: Process,
     counts: Counts,

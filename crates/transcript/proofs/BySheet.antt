@@ -15,7 +15,7 @@ use Rattle.model.specs.ByValue.{with_state, fresh_store, Given, opens_by, by_val
 use Rattle.model.specs.Linearizability.{Linearizable}
 use Rattle.model.proofs.Laws.{granted_fits}
 use Rattle.linearizability.proofs.Simulated.{Same, SameOpening, Simulates, simulated}
-use Rattle.linearizability.proofs.Linearized as by_value
+use Rattle.linearizability.proofs.Linearized as linearized
 use Rattle.buffers.specs.Session.{Session, session, Done, lent, back, table_words, buffers, opened_on, started, start_on, started_on, stepped_on, open_on, call_on}
 use Rattle.executor.specs.Perform.{perform_of}
 use Rattle.interpreter.specs.Sheet.{first_session}
@@ -291,4 +291,4 @@ as_by_value = record {
 }
 
 pub linearizable : Linearizable by_sheet
-linearizable = simulated by_sheet by_value given Holds as_by_value by_value.linearizable
+linearizable = simulated by_sheet by_value given Holds as_by_value linearized.linearizable

@@ -1,12 +1,6 @@
 -- The processes still to be looked at decide.
-use Prim.Native.Nat.{◌+◌, ◌*◌, ◌≤◌}
-use mathlib.Core.Path.{◌≡◌, refl, ◌∙◌}
+use mathlib.Core.Path.{◌∙◌}
 use native.Mathlib.Omega.{arith}
-use lib.ListN.{drop}
-use borrow.Author.Rules.{rules}
-use borrow.Author.Tests.{not-true, not-false}
-use Rattle.process.specs.ProcessWords.{sizes}
-use Rattle.layout.specs.StateWords.{all_known}
 use Rattle.layout.proofs.Known.{unknown_first, known_first, none_left}
 use Rattle.layout.proofs.state.all_known.Goals as goal
 

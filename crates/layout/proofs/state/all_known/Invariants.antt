@@ -1,12 +1,9 @@
 -- The processes still to be looked at decide.
 use Prim.Native.Nat.{◌+◌, ◌*◌, ◌≤◌}
-use mathlib.Core.Path.{◌≡◌, refl, ◌∙◌}
-use native.Mathlib.Omega.{arith}
+use mathlib.Core.Path.{◌≡◌}
 use lib.ListN.{drop}
-use borrow.Author.Tests.{not-true, not-false}
 use Rattle.process.specs.ProcessWords.{sizes}
 use Rattle.layout.specs.StateWords.{all_known}
-use Rattle.layout.proofs.Known.{unknown_first, known_first, none_left}
 use Rattle.layout.proofs.state.all_known.Given as goal
 
 abbrev pub invariant-loop-left : goal.invariant-loop-left

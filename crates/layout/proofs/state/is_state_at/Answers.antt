@@ -1,12 +1,8 @@
 -- The head, then the process's own words.
 use Prim.Native.Nat.{◌+◌, ◌*◌}
-use mathlib.Core.Path.{◌≡◌, sym, ap, ◌∙◌}
-use native.Mathlib.Omega.{arith}
-use lib.ListN.{length}
-use borrow.Author.Rules.{rules}
-use borrow.Author.Tests.{not-true, not-false}
+use mathlib.Core.Path.{ap, ◌∙◌}
 use Rattle.process.specs.ProcessWords.{sizes, known_process}
-use Rattle.layout.proofs.Known.{part_is, head_long, no_head, by_one, by_none}
+use Rattle.layout.proofs.Known.{part_is, no_head, by_one, by_none}
 use Rattle.layout.proofs.state.is_state_at.Goals as goal
 
 pub returns-then-not-is_head : goal.returns-then-not-is_head

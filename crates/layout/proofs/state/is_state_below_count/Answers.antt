@@ -1,12 +1,8 @@
 -- The head, then the processes below the count, of which there are at most all.
-use mathlib.Core.Path.{◌≡◌, sym, ap, ◌∙◌}
+use mathlib.Core.Path.{ap, ◌∙◌}
 use native.Mathlib.Omega.{arith}
-use lib.ListN.{length}
-use borrow.Author.Rules.{rules}
-use borrow.Author.Tests.{not-true, not-false}
-use Rattle.process.specs.ProcessWords.{sizes}
 use Rattle.layout.specs.StateWords.{is_state_below}
-use Rattle.layout.proofs.Known.{head_long, no_head, by_first, by_all, count_at}
+use Rattle.layout.proofs.Known.{no_head, by_first, by_all, count_at}
 use Rattle.layout.proofs.state.is_state_below_count.Goals as goal
 
 pub returns-then-not-is_head : goal.returns-then-not-is_head

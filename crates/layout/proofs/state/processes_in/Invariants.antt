@@ -1,14 +1,10 @@
 -- Those read stand at the front.
 use Prim.Native.Nat.{◌+◌, ◌*◌, ◌-◌, ◌≤◌}
-use mathlib.Core.Path.{◌≡◌, refl, sym, ap, ◌∙◌}
-use native.Mathlib.Omega.{arith}
-use lib.ListN.{length, take, drop, length-set}
-use lib.Seq.{take_all}
+use mathlib.Core.Path.{◌≡◌}
+use lib.ListN.{length, take, drop}
 use Rattle.model.specs.Layout.{limits}
-use Rattle.process.specs.ProcessWords.{sizes, process_from}
+use Rattle.process.specs.ProcessWords.{sizes}
 use Rattle.layout.specs.StateWords.{all_from}
-use Rattle.layout.proofs.Known.{part_is}
-use Rattle.layout.proofs.Whole.{read_next}
 use Rattle.layout.proofs.state.processes_in.Given as goal
 
 abbrev pub invariant-loop-i : goal.invariant-loop-i

@@ -1,15 +1,12 @@
 -- Those written stand at the front.
-use Prim.Native.Nat.{◌+◌, ◌*◌, ◌-◌, ◌≤◌}
-use mathlib.Core.List.{◌++◌, append-nil}
-use mathlib.Core.Path.{◌≡◌, refl, sym, ◌∙◌}
+use mathlib.Core.Path.{◌≡◌, ◌∙◌}
 use native.Mathlib.Omega.{arith}
 use lib.ListN.{length, take}
 use borrow.Author.Rules.{rules}
 use Rattle.model.specs.Layout.{limits}
 use Rattle.process.specs.ProcessWords.{sizes}
-use Rattle.layout.specs.StateWords.{all_words}
 use Rattle.layout.proofs.Known.{part_long}
-use Rattle.layout.proofs.Whole.{write_next, write_all}
+use Rattle.layout.proofs.Whole.{write_next}
 use Rattle.layout.proofs.state.put_processes.Goals as goal
 
 pub loop-i-preserved : goal.loop-i-preserved

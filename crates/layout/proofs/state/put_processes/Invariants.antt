@@ -1,14 +1,11 @@
 -- Those written stand at the front.
 use Prim.Native.Nat.{◌+◌, ◌*◌, ◌-◌, ◌≤◌}
-use mathlib.Core.List.{◌++◌, append-nil}
-use mathlib.Core.Path.{◌≡◌, refl, sym, ◌∙◌}
-use native.Mathlib.Omega.{arith}
+use mathlib.Core.List.{◌++◌}
+use mathlib.Core.Path.{◌≡◌}
 use lib.ListN.{length, take}
 use Rattle.model.specs.Layout.{limits}
 use Rattle.process.specs.ProcessWords.{sizes}
 use Rattle.layout.specs.StateWords.{all_words}
-use Rattle.layout.proofs.Known.{part_long}
-use Rattle.layout.proofs.Whole.{write_next, write_all}
 use Rattle.layout.proofs.state.put_processes.Given as goal
 
 abbrev pub invariant-loop-i : goal.invariant-loop-i

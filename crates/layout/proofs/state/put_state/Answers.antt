@@ -5,7 +5,6 @@ use lib.ListN.{take}
 use Rattle.process.specs.ProcessWords.{sizes}
 use Rattle.layout.specs.StateWords.{all_words, state_words}
 use Rattle.layout.proofs.Whole.{head_front}
-use borrow.Author.Rules.{rules}
 use Rattle.layout.proofs.state.put_state.Goals as goal
 
 pub returns : goal.returns

@@ -4,7 +4,6 @@ use Rattle.model.specs.Layout.{node_words, node_record, with_node}
 use mathlib.Core.Path.{refl}
 use native.Mathlib.Omega.{arith}
 use Prim.Native.Nat.{◌*◌}
-use borrow.Author.Rules.{rules}
 use Rattle.tables.proofs.nodes.write_node.Goals as goal
 
 pub returns : goal.returns
