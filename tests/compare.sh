@@ -1,9 +1,10 @@
 #!/usr/bin/env bash
-# tests/compare.sh [PROGRAM [SHEETS]]: holds a sheet program to the second implementation.
+# tests/compare.sh [PROGRAM [SHEETS]]: holds a sheet program to the second implementation; if none is named, the one that `rt ci` or
+# `rt run` left in crates/sheet/out.
 # Random sheets whole, other ones in pieces, the edges of a run, every example. Fails at the first difference.
 set -euo pipefail
 root=$(cd "$(dirname "$0")/.." && pwd)
-program=$(realpath -e "${1:-$root/target/bin/sheet}")
+program=$(realpath -e "${1:-$root/crates/sheet/out/sheet}")
 sheets=${2:-3000}
 
 cd "$root/tests"

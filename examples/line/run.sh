@@ -6,7 +6,7 @@ here=$(cd "$(dirname "$0")" && pwd)
 root=$(cd "$here/../.." && pwd)
 archive=${1:-$root/target/staticlib/libembed.a}
 if [ ! -f "$archive" ]; then
-    echo "no archive at $archive: build it with 'rt staticlib embed'" >&2
+    echo "no archive at $archive: build it with tools/archive" >&2
     exit 1
 fi
 work=$(mktemp -d)

@@ -13,7 +13,7 @@ fn main() {
     println!("cargo:rerun-if-changed={archive}/libembed.a");
     assert!(
         Path::new(&archive).join("libembed.a").exists(),
-        "no libembed.a in {archive}: rt staticlib embed, or TRAY_ARCHIVE"
+        "no libembed.a in {archive}: tools/archive, or TRAY_ARCHIVE"
     );
 
     let object = format!("{}/tray_store.o", env::var("OUT_DIR").unwrap());
