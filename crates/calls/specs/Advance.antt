@@ -5,7 +5,6 @@ use Rattle.model.specs.declared.types.Stepping.{Stepping}
 use Rattle.model.specs.Layout.{Memory}
 use Rattle.model.specs.Phases.{Moved, transition_of, refuses}
 use Rattle.model.specs.Calls.{process_after, outcome_of, tally_after}
-use Rattle.tables.specs.Room.{memory}
 
 pub record Advance : Type 0 where
   pub refused : Bool

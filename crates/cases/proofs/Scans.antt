@@ -1,5 +1,5 @@
 -- Sweeps on the test bench: document 02's P1 in one table, beside the slips of the bench itself.
-use Prim.Native.Nat.{ℕ, ◌+◌}
+use Prim.Native.Nat.{ℕ}
 use mathlib.Core.List.{List, [], ◌∷◌, ◌++◌, map}
 use mathlib.Core.Path.{◌≡◌, refl}
 use lib.ListN.{replicate}

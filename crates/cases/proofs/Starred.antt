@@ -1,5 +1,4 @@
 -- Trays on the test bench: document 01's cases in one table, proved by computing both sides.
-use Prim.Native.Nat.{◌+◌}
 use mathlib.Core.List.{List, [], ◌∷◌, ◌++◌, map}
 use mathlib.Core.Path.{◌≡◌, refl}
 use lib.ListN.{replicate}

@@ -48,6 +48,7 @@ pub extern "C" fn tray_tally_words() -> usize
 
 // One node more than trays, for the head. No table has 0 words, so 0 tells that there is none for so many.
 #[unsafe(no_mangle)]
+#[tactic(auto, unfolding(crate::specs::Calls::tray_node_words))]
 pub extern "C" fn tray_node_words(trays: u32) -> usize
     ensures { result ≡ tray_node_words trays }
 {
@@ -60,6 +61,7 @@ pub extern "C" fn tray_node_words(trays: u32) -> usize
 
 // One place more than readings: place 0 is none. Again 0 where there is no such table.
 #[unsafe(no_mangle)]
+#[tactic(auto, unfolding(crate::specs::Calls::tray_reading_words))]
 pub extern "C" fn tray_reading_words(readings: u32) -> usize
     ensures { result ≡ tray_reading_words readings }
 {
@@ -161,6 +163,7 @@ pub extern "C" fn tray_step(
 
 // Needs no station and is no event: a display may look while calls run.
 #[unsafe(no_mangle)]
+#[tactic(auto, unfolding(crate::specs::Calls::tray_look))]
 pub extern "C" fn tray_look(
     state: &[u32],
     nodes: &[u32],
@@ -178,6 +181,7 @@ pub extern "C" fn tray_look(
 
 // A fault that is found is an answer; only where the store cannot be inspected is the number not 0.
 #[unsafe(no_mangle)]
+#[tactic(auto, unfolding(crate::specs::Calls::tray_inspect))]
 pub extern "C" fn tray_inspect(
     state: &[u32],
     nodes: &[u32],
@@ -193,6 +197,7 @@ pub extern "C" fn tray_inspect(
 
 // Is lent no tables: what a station does stands in the state alone.
 #[unsafe(no_mangle)]
+#[tactic(auto, unfolding(crate::specs::Calls::tray_standing))]
 pub extern "C" fn tray_standing(
     state: &[u32],
     station: u32,

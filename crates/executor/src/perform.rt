@@ -42,6 +42,7 @@ fn allowed(opened: bool, command: Command) -> bool
 }
 
 // The call that the command asks for. A look and an inspection leave the state, so it is handed back as it came.
+#[tactic(auto, unfolding(buffers::specs::Session::call_on))]
 fn call(
     s: State,
     command: Command,
@@ -80,6 +81,7 @@ fn call(
 }
 
 // Every command has its line: one before an accepted open prints refusal 14, and leaves all as it was.
+#[tactic(auto, unfolding(crate::specs::Perform::perform_of))]
 pub fn perform(
     s: State,
     command: Command,

@@ -7,7 +7,7 @@ use mathlib.Core.Path.{◌≡◌, refl, sym, ap, ◌∙◌, subst}
 use native.Mathlib.Omega.{arith}
 use lib.Dec.{T, eqb, leb}
 use Rattle.model.specs.Layout.{Memory, key, next, lock, with_word, top_level}
-use Rattle.model.specs.Phases.{moved, at, ahead, seek_by, seek_of, lock_of, check_by, check_of, no_effect, lawful_at, phase_of, transition_of}
+use Rattle.model.specs.Phases.{moved, ahead, seek_by, seek_of, lock_of, check_by, check_of, no_effect, lawful_at, phase_of, transition_of}
 use Rattle.model.specs.Calls.{process_after}
 use Rattle.model.specs.Roles.{role_of, from_put}
 use Rattle.model.proofs.Tests.{if_yes, if_no, by_eq, eq→eqb, ne→neqb}

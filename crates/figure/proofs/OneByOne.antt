@@ -17,7 +17,6 @@ use Rattle.model.proofs.Seen.{empty_seen}
 use Rattle.model.specs.ByValue.{opens_by, fresh_store, by_value}
 use Rattle.model.specs.Requests.{Operation, first_of, last_of}
 use Rattle.model.specs.Linearizability.{All}
-use Rattle.model.specs.Roles.{is_idle}
 use Rattle.model.proofs.Tests.{by_eq}
 use Rattle.model.proofs.Laws.{top_at_most}
 use Rattle.linearizability.proofs.Opened.{opened_live}

@@ -4,7 +4,7 @@
 -- record. A pointer to a value is the version's index, and NULL is 0.
 -- Added to the figure, each said where it enters: the fixed tables and their "full" answers; and, since these are functions of
 -- memory, the bound of a recursion, the process that runs it, and what others do while `acquire` waits.
-use Rattle.std.specs.Prelude.{ℕ, zero, suc, ◌+◌, ◌*◌, List, ◌∷◌, ◌++◌, eqb, ltb, leb, replicate}
+use Rattle.std.specs.Prelude.{ℕ, zero, suc, ◌+◌, ◌*◌, List, eqb, ltb, leb, replicate}
 use Rattle.std.proofs.Math.Option.{Option, none, some}
 use Rattle.std.proofs.lemmas.List.Edits.{sets}
 use Rattle.figure.specs.Types.{Answer, TooOld, VersionsFull, Added, KeysFull, New, Found, None}

@@ -1,5 +1,5 @@
 -- An accepted opening leaves a store in order, with nothing in it and nothing to explain.
-use Prim.Native.Nat.{ℕ, zero, suc, ◌+◌, ◌*◌, ◌-◌, ◌%◌, ◌≤◌, ◌<◌}
+use Prim.Native.Nat.{ℕ, zero, suc, ◌+◌, ◌*◌, ◌%◌, ◌≤◌, ◌<◌}
 use mathlib.Core.Bool.{Bool, true, false, not}
 use mathlib.Core.List.{List, []}
 use mathlib.Core.Logic.{◌≢◌}
@@ -8,7 +8,7 @@ use native.Mathlib.Omega.{arith}
 use lib.Dec.{T, eqb, leb, leb→le, eqb→eq}
 use lib.ListN.{length, get_or, replicate, length-replicate}
 use Rattle.linearizability.specs.Types.{Idle, Walk, Refusal, Permit, Granted, Denied, Process, Opening}
-use Rattle.model.specs.Layout.{Memory, node_words, version_words, limits, capacity, word, key, top, next, fresh_nodes, link_at, lock_at, node_offsets, top_level, levels}
+use Rattle.model.specs.Layout.{Memory, node_words, version_words, limits, capacity, word, key, top, next, fresh_nodes, link_at, lock_at, node_offsets, top_level}
 use Rattle.model.specs.Map.{held}
 use Rattle.model.specs.State.{idle_process, no_process, fresh_state, within, lawful_length, lawful_nodes, lawful_versions}
 use Rattle.model.specs.Calls.{open_due, open_permit, open_by, open_of, Store}
@@ -18,7 +18,7 @@ use Rattle.model.proofs.Tests.{if-by, and→, by_le}
 use Rattle.model.proofs.Words.{filled, zero_key, length_word, word_same, word_other}
 use Rattle.linearizability.proofs.Level.{Level}
 use Rattle.linearizability.proofs.Invariant.{Ghost, In, Nodes, Book, Fits}
-use Rattle.linearizability.proofs.Effects.{nothing, played, nothing≢took}
+use Rattle.linearizability.proofs.Effects.{played, nothing≢took}
 use Rattle.linearizability.proofs.Live.{Core, Track, busy_below, Hist, Live, slot}
 use Rattle.linearizability.proofs.Started.{granted≢denied}
 use Rattle.model.proofs.Seen.{empty_seen}

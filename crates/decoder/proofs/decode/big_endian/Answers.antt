@@ -1,5 +1,5 @@
 use native.Mathlib.Omega.{arith}
-use Rattle.decoder.proofs.Bytes.{byte_below, three_below, byte_taken}
+use Rattle.decoder.proofs.Bytes.{three_below}
 use Rattle.decoder.proofs.decode.big_endian.Goals as goal
 
 pub overflow_mul-n : goal.overflow_mul-n

@@ -1,11 +1,8 @@
 -- The number so far, with the bytes that are left behind it, is the number of all bytes.
 use Prim.Native.Nat.{◌^◌, ◌-◌, ◌≤◌, ◌<◌}
-use mathlib.Core.Path.{◌≡◌, refl, sym, ◌∙◌}
-use native.Mathlib.Omega.{arith}
-use lib.ListN.{length, drop, get_or, drop_of_length-le}
-use lib.Dec.{lit<}
+use mathlib.Core.Path.{◌≡◌}
+use lib.ListN.{length, drop}
 use Rattle.decoder.specs.Commands.{big_endian_from, big_endian}
-use Rattle.decoder.proofs.Bytes.{byte_below, three_below, byte_taken}
 use Rattle.decoder.proofs.decode.big_endian.Given as goal
 
 abbrev pub invariant-loop-i : goal.invariant-loop-i

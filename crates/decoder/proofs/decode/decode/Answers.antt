@@ -2,7 +2,6 @@
 use Prim.Native.Nat.{◌+◌}
 use mathlib.Core.Path.{◌∙◌, refl}
 use native.Mathlib.Omega.{arith}
-use borrow.Author.Tests.{ne_eqb}
 use Rattle.decoder.specs.Commands.{inspect_form, code_from}
 use Rattle.decoder.proofs.Decoding.{no_byte, byte_at, form_at, whole_from}
 use borrow.Author.Rules.{rules}

@@ -1,6 +1,5 @@
 -- Each operand stands behind the one before.
 use Rattle.decoder.proofs.Decoding.{get_is}
-use borrow.Author.Rules.{rules}
 use Rattle.decoder.proofs.decode.get_at.Goals as goal
 
 pub returns : goal.returns

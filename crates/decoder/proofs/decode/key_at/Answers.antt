@@ -5,7 +5,6 @@ use native.Mathlib.Omega.{arith}
 use lib.ListN.{take, drop}
 use Rattle.decoder.specs.Commands.{big_endian}
 use Rattle.decoder.proofs.Bytes.{low_behind}
-use borrow.Author.Rules.{rules}
 use Rattle.decoder.proofs.decode.key_at.Goals as goal
 
 pub returns : goal.returns

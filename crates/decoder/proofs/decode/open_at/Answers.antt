@@ -1,6 +1,5 @@
 -- Each operand stands behind the one before.
 use Rattle.decoder.proofs.Decoding.{open_is}
-use borrow.Author.Rules.{rules}
 use Rattle.decoder.proofs.decode.open_at.Goals as goal
 
 pub returns : goal.returns

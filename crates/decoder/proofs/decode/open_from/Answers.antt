@@ -2,7 +2,6 @@
 use native.Mathlib.Omega.{arith}
 use Rattle.decoder.specs.Commands.{open_form}
 use Rattle.decoder.proofs.Decoding.{short_from, whole_from}
-use borrow.Author.Rules.{rules}
 use Rattle.decoder.proofs.decode.open_from.Goals as goal
 
 pub returns-then-bytes-at-lt9 : goal.returns-then-bytes-at-lt9

@@ -2,7 +2,6 @@
 use Prim.Native.Nat.{◌+◌}
 use mathlib.Core.Path.{refl}
 use Rattle.decoder.proofs.Decoding.{put_is}
-use borrow.Author.Rules.{rules}
 use Rattle.decoder.proofs.decode.put_at.Goals as goal
 
 pub returns : goal.returns

@@ -2,7 +2,6 @@
 use native.Mathlib.Omega.{arith}
 use Rattle.decoder.specs.Commands.{step_form}
 use Rattle.decoder.proofs.Decoding.{short_from, whole_from}
-use borrow.Author.Rules.{rules}
 use Rattle.decoder.proofs.decode.step_from.Goals as goal
 
 pub returns-then-bytes-at-lt1 : goal.returns-then-bytes-at-lt1

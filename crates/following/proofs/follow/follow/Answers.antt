@@ -1,7 +1,6 @@
 -- The link leads to the end, to no node in use, or to a node.
 use Rattle.model.specs.Phases.{follow_of}
-use borrow.Author.Tests.{eq-eqb, le-ltb, lt-ltb, ne_eqb}
-use borrow.Author.Rules.{rules}
+use borrow.Author.Tests.{eq-eqb}
 use Rattle.following.proofs.follow.follow.Goals as goal
 
 pub returns-then-node-eq0 : goal.returns-then-node-eq0

@@ -1,7 +1,6 @@
 -- Past the last, before the first, or in the range.
 use Rattle.model.specs.Phases.{follow_at}
-use borrow.Author.Tests.{le-ltb, lt-ltb}
-use borrow.Author.Rules.{rules}
+use borrow.Author.Tests.{lt-ltb}
 use Rattle.following.proofs.follow.follow_at.Goals as goal
 
 pub returns-then-call-key : goal.returns-then-call-key

@@ -1,8 +1,6 @@
 -- Full tables and the top's range come first; a table that is not full has the room that `add_node` asks for.
-use Rattle.model.specs.Phases.{make_of}
 use Rattle.tables.proofs.Tests.{node_room, version_room}
 use mathlib.Core.Path.{sym, ◌∙◌}
-use borrow.Author.Tests.{le-ltb, lt-ltb}
 use borrow.Author.Rules.{rules}
 use Rattle.inserting.proofs.insert.make.Goals as goal
 

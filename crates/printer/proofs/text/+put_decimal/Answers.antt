@@ -1,6 +1,5 @@
 -- The digits of a tenth of the number, and behind them the last one.
 use native.Mathlib.Omega.{arith}
-use lib.ListN.{length-set}
 use Rattle.printer.specs.Text.{digit}
 use Rattle.printer.proofs.Writing.{behind, one_byte, decimal_short, decimal_long, short_length, long_length}
 use Prim.Native.Nat.{◌%◌}

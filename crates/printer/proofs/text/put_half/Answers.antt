@@ -58,14 +58,13 @@ loop-i-preserved-then-b c =
     let l = c.loop-i in
     let p = c.put_decimal-next in
     let text = decimal c.number_at.result in
-    let long : length a.format ≡ 25 = search rules in
-    (
+    let long : length a.format ≡ 25 = search rules in (
       omega arith,
       left_on text (rest a.key a.numbers a.format l.i)
-      (turn a.key a.numbers a.format l.i _ _ _ _ text long c.loop-i-test.true c.if-b-eq46.false l.invariant.1
-      (digits_is a.key a.numbers a.format l.i _ c.if-b.true c.number_at.ensures))
-      p.auto.out
-      p.ensures,
+          (turn a.key a.numbers a.format l.i _ _ _ _ text long c.loop-i-test.true c.if-b-eq46.false l.invariant.1
+          (digits_is a.key a.numbers a.format l.i _ c.if-b.true c.number_at.ensures))
+          p.auto.out
+          p.ensures,
     )
 
 pub bounds-out-next : goal.bounds-out-next
@@ -74,9 +73,12 @@ bounds-out-next c =
     let l = c.loop-i in
     let byte = b a.key a.numbers a.format l.i in
     let long : length a.format ≡ 25 = search rules in
-    omega (arith, left_room (byte ∷ []) (rest a.key a.numbers a.format l.i)
-    (turn a.key a.numbers a.format l.i _ _ _ _ (byte ∷ []) long c.loop-i-test.true c.if-b-eq46.false l.invariant.1
-    (itself_is a.key a.numbers a.format l.i c.if-b.false)))
+    omega (
+      arith,
+      left_room (byte ∷ []) (rest a.key a.numbers a.format l.i)
+          (turn a.key a.numbers a.format l.i _ _ _ _ (byte ∷ []) long c.loop-i-test.true c.if-b-eq46.false l.invariant.1
+          (itself_is a.key a.numbers a.format l.i c.if-b.false)),
+    )
 
 pub loop-i-preserved : goal.loop-i-preserved
 loop-i-preserved c =
@@ -85,12 +87,11 @@ loop-i-preserved c =
     let byte = b a.key a.numbers a.format l.i in
     let long : length a.format ≡ 25 = search rules in
     let now = turn a.key a.numbers a.format l.i _ _ _ _ (byte ∷ []) long c.loop-i-test.true c.if-b-eq46.false l.invariant.1
-        (itself_is a.key a.numbers a.format l.i c.if-b.false) in
-    let room = left_room (byte ∷ []) (rest a.key a.numbers a.format l.i) now in
-    (
+    (itself_is a.key a.numbers a.format l.i c.if-b.false) in
+    let room = left_room (byte ∷ []) (rest a.key a.numbers a.format l.i) now in (
       omega arith,
       left_on (byte ∷ []) (rest a.key a.numbers a.format l.i) now (length-set l.out l.next byte)
-      (one_byte l.out l.next byte (omega (arith, room))),
+          (one_byte l.out l.next byte (omega (arith, room))),
     )
 
 pub returns : goal.returns

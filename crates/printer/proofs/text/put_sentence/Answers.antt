@@ -1,9 +1,7 @@
 -- The one half, filled, and behind it the other.
 use Prim.Native.Nat.{◌+◌}
 use mathlib.Core.Path.{◌≡◌}
-use native.Mathlib.Omega.{arith}
 use lib.ListN.{length, length-append}
-use borrow.Author.Rules.{rules}
 use Rattle.printer.specs.Types.{Sentence}
 use Rattle.printer.specs.Sentences.{filled, sentence}
 use Rattle.printer.proofs.Writing.{behind}

@@ -1,9 +1,7 @@
 -- From the last process down: what is left to test decides as much as all did.
 use Prim.Native.Nat.{◌≤◌}
-use mathlib.Core.Path.{◌≡◌, refl, sym, ◌∙◌}
-use native.Mathlib.Omega.{arith}
+use mathlib.Core.Path.{◌≡◌}
 use Rattle.model.specs.Inspection.{idle_below}
-use Rattle.refusals.proofs.Laws.{idle_more}
 use Rattle.refusals.proofs.permit.idle_below.Given as goal
 
 abbrev pub invariant-loop-left : goal.invariant-loop-left

@@ -1,7 +1,5 @@
 -- A lawful state has at most eight processes, so the loop stays in the array.
 use mathlib.Core.Path.{sym, ◌∙◌}
-use borrow.Author.Tests.{not-true, not-false}
-use Rattle.model.specs.Inspection.{inspect_permit}
 use Rattle.refusals.proofs.Laws.{lawful_store_lem}
 use borrow.Author.Rules.{rules}
 use Rattle.refusals.proofs.permit.inspect_permit.Goals as goal

@@ -9,7 +9,6 @@ use Rattle.layout.specs.Head.{header_offsets}
 use lib.Dec.{leb, ltb}
 use lib.ListN.{get_or}
 use mathlib.Core.Path.{ap}
-use borrow.Author.Rules.{rules}
 use Rattle.refusals.proofs.permit.start_permit.Goals as goal
 
 pub returns : goal.returns

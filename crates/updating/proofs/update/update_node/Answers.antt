@@ -1,9 +1,6 @@
 -- Too old, full or added; a table that is not full has the room that `add_version` asks for.
-use Rattle.model.specs.Phases.{update_node}
 use Rattle.tables.proofs.Tests.{version_room}
 use mathlib.Core.Path.{sym, ◌∙◌}
-use native.Mathlib.Omega.{arith}
-use borrow.Author.Tests.{le-ltb, lt-ltb}
 use borrow.Author.Rules.{rules}
 use Rattle.updating.proofs.update.update_node.Goals as goal
 
