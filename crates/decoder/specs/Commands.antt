@@ -1,6 +1,6 @@
 -- Document 01, "Sheet program": what the bytes of a command mean.
 use Rattle.std.specs.Prelude.{ℕ, zero, suc, ◌+◌, ◌*◌, ◌≤◌, max, List, [], ◌∷◌, eqb, ltb, length, take, drop}
-use Rattle.model.specs.Choice.{if◌then◌else◌}
+use Rattle.std.specs.Prelude.{if◌then◌else◌}
 use Rattle.decoder.specs.Types.{Command, Open, Put, Get, Step, Look, Inspect, Decoded, Whole, Unknown, Short, End}
 
 -- "big-endian operands": n, and behind it the bytes

@@ -17,7 +17,7 @@ use Rattle.model.specs.declared.types.Stepping.{Stepping}
 use Rattle.model.specs.declared.types.Looking.{Looking}
 use Rattle.model.specs.declared.types.Inspecting.{Inspecting}
 use Rattle.model.specs.declared.types.Status.{Status}
-use Rattle.model.specs.Choice.{if◌then◌else◌}
+use Rattle.std.specs.Prelude.{if◌then◌else◌}
 use Rattle.model.specs.Numbers.{number_of}
 use Rattle.model.specs.State.{process_at}
 use Rattle.model.specs.Calls.{status_permit, standing, status_by, status_of}

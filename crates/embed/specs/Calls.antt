@@ -1,6 +1,6 @@
 -- The exported functions: the calls on lent words, their outcomes told in numbers.
 use Rattle.std.specs.Prelude.{ℕ, suc, ◌*◌, List}
-use Rattle.model.specs.Choice.{if◌then◌else◌}
+use Rattle.std.specs.Prelude.{if◌then◌else◌}
 use Rattle.model.specs.Layout.{node_words, version_words, limits}
 use Rattle.model.specs.Requests.{Operation}
 use Rattle.model.specs.State.{within}

@@ -8,7 +8,7 @@ use Rattle.model.specs.declared.types.Stepping.{Stepping}
 use Rattle.model.specs.declared.types.Looking.{Looking}
 use Rattle.model.specs.declared.types.Inspecting.{Inspecting}
 use Rattle.model.specs.declared.types.Status.{Status}
-use Rattle.model.specs.Choice.{if◌then◌else◌}
+use Rattle.std.specs.Prelude.{if◌then◌else◌}
 use Rattle.model.specs.Layout.{joined}
 use Rattle.model.specs.Numbers.{refusal_of, answer_of, kind_from}
 use Rattle.model.specs.Requests.{Operation}

@@ -1,7 +1,7 @@
 -- Document 01, "Sheet program": how a run goes on, or ends, at a place in its bytes.
 use Rattle.std.specs.Prelude.{ℕ, Bool, List, drop}
 use Rattle.model.specs.declared.types.Refusal.TheVariants.{UnknownCommand, CutShort}
-use Rattle.model.specs.Choice.{if◌then◌else◌}
+use Rattle.std.specs.Prelude.{if◌then◌else◌}
 use Rattle.decoder.specs.declared.types.Decoded.{Decoded}
 use Rattle.decoder.specs.declared.types.Decoded.TheVariants.{Whole, Unknown, Short, End}
 use Rattle.decoder.specs.Commands.{command_from}

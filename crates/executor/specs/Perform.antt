@@ -1,7 +1,7 @@
 -- Document 01, "Sheet program": which commands are performed, and what they do.
 use Rattle.std.specs.Prelude.{Bool, true, false, ◌||◌, List, [], ◌∷◌}
 use Rattle.model.specs.declared.types.Refusal.TheVariants.{NotOpen}
-use Rattle.model.specs.Choice.{if◌then◌else◌}
+use Rattle.std.specs.Prelude.{if◌then◌else◌}
 use Rattle.decoder.specs.declared.types.Command.{Command}
 use Rattle.decoder.specs.declared.types.Command.TheVariants.{Open, Put, Get, Step, Look, Inspect}
 use Rattle.printer.specs.declared.types.Line.{Line}

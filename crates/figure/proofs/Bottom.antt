@@ -8,7 +8,7 @@ use mathlib.Core.Path.{◌≡◌, refl, sym, ap, ◌∙◌}
 use native.Mathlib.Omega.{arith}
 use lib.Dec.{T, eqb, leb, ltb, nleb→lt, ltb→lt}
 use lib.ListN.{length, set}
-use Rattle.model.specs.Choice.{if◌then◌else◌}
+use Rattle.std.specs.Prelude.{if◌then◌else◌}
 use Rattle.model.specs.Layout.{Memory, node_words, top_level, capacity, newest, next, lock, timestamp}
 use Rattle.model.specs.Map.{Map}
 use Rattle.model.specs.Phases.{moved, used_node, used_version, max_nodes, max_versions, ahead, walked, descend, walk_by, check_by, committed, add_version, update_node, update_at, update_of, add_node, make_of, phase_of, transition_of}

@@ -7,7 +7,7 @@ use lib.Count.{count_trailing_zeros}
 use lib.Dec.{eqb}
 use mathlib.Core.Bool.{Bool, true, false, ◌&&◌}
 use lib.ListN.{replicate}
-use Rattle.model.specs.Choice.{if◌then◌else◌}
+use Rattle.std.specs.Prelude.{if◌then◌else◌}
 use Rattle.model.specs.Layout as Layout
 use Rattle.model.specs.Layout.{Memory, node_words, version_words}
 use Rattle.model.specs.Numbers.{answer_number}

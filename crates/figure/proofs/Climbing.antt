@@ -10,7 +10,7 @@ use native.Mathlib.Numerals.{add-one}
 use native.Mathlib.Omega.{arith}
 use lib.Dec.{T, eqb, leb, ltb, leb→le, ltb→lt}
 use lib.ListN.{get_or}
-use Rattle.model.specs.Choice.{if◌then◌else◌}
+use Rattle.std.specs.Prelude.{if◌then◌else◌}
 use Rattle.model.specs.Layout.{Memory, top_level, next, lock}
 use Rattle.model.specs.Numbers.{no_version}
 use Rattle.model.specs.Phases.{moved, at, ended, used_node, ahead, check_by, add_link, link_of, rise, released, freed, release_of, no_effect, lawful_at, phase_of, transition_of}

@@ -1,6 +1,6 @@
 -- The number of steps of a call that is ran alone, as a count over the figure's run.
 use Rattle.std.specs.Prelude.{ℕ, zero, suc, ◌+◌, ◌*◌, leb, ltb}
-use Rattle.model.specs.Choice.{if◌then◌else◌}
+use Rattle.std.specs.Prelude.{if◌then◌else◌}
 use Rattle.model.specs.Layout.{Memory, key, next}
 use Rattle.model.proofs.Counting.{count}
 use Rattle.model.specs.Roles.{class_of}

@@ -9,7 +9,7 @@ use native.Mathlib.Omega.{arith}
 use lib.Dec.{T, eqb, leb, ltb, leb→le, eqb→eq}
 use borrow.Author.Tests.{eq-eqb, ne_eqb, le-leb, leb-false}
 use Rattle.model.specs.declared.types.Inspecting.{Inspecting}
-use Rattle.model.specs.Choice.{if◌then◌else◌}
+use Rattle.std.specs.Prelude.{if◌then◌else◌}
 use Rattle.model.specs.Layout.{Memory, timestamp, prev}
 use Rattle.model.specs.Inspection.{chain_falls}
 use Rattle.model.proofs.Tests.{by_eq}

@@ -7,7 +7,7 @@ use native.Mathlib.Omega.{arith}
 use lib.Dec.{eqb, ltb, leb}
 use borrow.Author.Tests.{eq-eqb, ne_eqb, lt-ltb, le-ltb, leb-false, ltb-false}
 use Rattle.model.specs.declared.types.Inspecting.{Inspecting}
-use Rattle.model.specs.Choice.{if◌then◌else◌}
+use Rattle.std.specs.Prelude.{if◌then◌else◌}
 use Rattle.model.specs.Layout.{Memory, top_level, levels, key, top, next, lock}
 use Rattle.model.specs.Inspection.{versions_sound, reaching, level_from, then_inspect, levels_from}
 use Rattle.model.proofs.LevelBound.{ahead, fewer_ahead, ahead_most, level_fuel}

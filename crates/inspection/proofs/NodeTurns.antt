@@ -8,7 +8,7 @@ use native.Mathlib.Omega.{arith}
 use lib.Dec.{T, eqb, leb, leb→le}
 use borrow.Author.Tests.{ne_eqb}
 use Rattle.model.specs.declared.types.Inspecting.{Inspecting}
-use Rattle.model.specs.Choice.{if◌then◌else◌}
+use Rattle.std.specs.Prelude.{if◌then◌else◌}
 use Rattle.model.specs.Layout.{Memory, newest, lock}
 use Rattle.model.specs.Phases.{used_version}
 use Rattle.model.specs.Inspection.{chain_falls, chain_sound, versions_sound}

@@ -7,7 +7,7 @@ use mathlib.Core.Path.{◌≡◌, refl, sym, ◌∙◌}
 use lib.Dec.{eqb, ltb, leb}
 use borrow.Author.Tests.{ne_eqb, le-leb, lt-leb, lt-ltb}
 use Rattle.model.specs.declared.types.Inspecting.{Inspecting}
-use Rattle.model.specs.Choice.{if◌then◌else◌}
+use Rattle.std.specs.Prelude.{if◌then◌else◌}
 use Rattle.model.specs.Layout.{Memory, newest, timestamp, prev}
 use Rattle.model.specs.Phases.{used_version}
 use Rattle.model.specs.Inspection.{chain_falls, chain_ages, chain_sound}

@@ -1,7 +1,7 @@
 -- The faults of document 01's inspection in three groups: those of the node reached, those of a version and the one before it,
 -- and those of the link that leads on.
 use Rattle.std.specs.Prelude.{ℕ, Bool, not, ◌&&◌, ◌||◌, List, eqb, ltb, leb}
-use Rattle.model.specs.Choice.{if◌then◌else◌}
+use Rattle.std.specs.Prelude.{if◌then◌else◌}
 use Rattle.model.specs.Layout.{Memory, key, newest, top, lock, timestamp}
 use Rattle.model.specs.Phases.{used_version}
 

@@ -3,7 +3,7 @@
 -- memory is proofs/OnePass `one_pass_lem`.
 use Rattle.std.specs.Prelude.{ℕ, zero, suc, not, eqb, ltb, leb}
 use Rattle.model.specs.declared.types.Inspecting.{Inspecting}
-use Rattle.model.specs.Choice.{if◌then◌else◌}
+use Rattle.std.specs.Prelude.{if◌then◌else◌}
 use Rattle.model.specs.Layout.{Memory, timestamp, prev}
 use Rattle.model.specs.Phases.{used_version}
 use Rattle.model.specs.Inspection.{chain_falls, chain_ages}

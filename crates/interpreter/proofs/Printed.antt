@@ -9,7 +9,7 @@ use lib.ListN.{length, take, drop, length-append}
 use lib.Seq.{length-take-le, take_at, drop-append-le, drop-drop, length-sets, sets-eq}
 use Rattle.model.specs.declared.types.Refusal.{Refusal}
 use Rattle.model.specs.declared.types.Refusal.TheVariants.{UnknownCommand, CutShort}
-use Rattle.model.specs.Choice.{if◌then◌else◌}
+use Rattle.std.specs.Prelude.{if◌then◌else◌}
 use Rattle.decoder.specs.declared.types.Command.{Command}
 use Rattle.decoder.specs.declared.types.Decoded.{Decoded}
 use Rattle.decoder.specs.declared.types.Decoded.TheVariants.{Whole, Unknown, Short, End}

@@ -1,7 +1,7 @@
 -- Document 01, "Sheet program": commands one after another, from bytes that may not all be read yet, to a page that may fill up.
 use Rattle.std.specs.Prelude.{ℕ, zero, suc, ◌+◌, ◌≤◌, Bool, true, false, List, leb, length}
 use Rattle.model.specs.declared.types.Refusal.{Refusal}
-use Rattle.model.specs.Choice.{if◌then◌else◌}
+use Rattle.std.specs.Prelude.{if◌then◌else◌}
 use Rattle.decoder.specs.declared.types.Command.{Command}
 use Rattle.ending.specs.declared.types.Rest.{Rest}
 use Rattle.ending.specs.declared.types.Rest.TheVariants.{Next, More, Over, Ends}

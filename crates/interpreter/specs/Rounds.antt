@@ -1,6 +1,6 @@
 -- A sheet in rounds: its bytes come in pieces of any size, and its lines go to pages of any length.
 use Rattle.std.specs.Prelude.{ℕ, ◌≤◌, ◌<◌, Bool, true, false, ◌&&◌, List, [], ◌∷◌, ◌++◌, ◌≡◌, eqb, length, take, drop}
-use Rattle.model.specs.Choice.{if◌then◌else◌}
+use Rattle.std.specs.Prelude.{if◌then◌else◌}
 use Rattle.model.specs.Linearizability.{All}
 use Rattle.decoder.specs.Commands.{longest_command}
 use Rattle.printer.specs.Lines.{text, room, Page}

@@ -9,7 +9,7 @@ use lib.ListN.{length, get_or, take, drop, length-drop, drop_of_length-le}
 use lib.Seq.{length-take-le, drop-drop}
 use borrow.Author.Tests.{eqb-true, eq-eqb, leb-true}
 use Rattle.model.specs.Layout.{limits}
-use Rattle.model.specs.Choice.{if◌then◌else◌}
+use Rattle.std.specs.Prelude.{if◌then◌else◌}
 use Rattle.process.specs.ProcessWords.{sizes, known_process}
 use Rattle.layout.specs.Head.{bit, header_offsets, head_offsets, head_at}
 use Rattle.layout.specs.StateWords.{state_from, all_known, known_head, is_state_below, start_of, part, is_state_at}

@@ -10,7 +10,7 @@ use lib.Seq.{length-take-le, drop-drop, take-add}
 use borrow.Author.Tests.{leb-true, eqb-true}
 use Rattle.model.specs.declared.types.Counts.{Counts}
 use Rattle.model.specs.declared.types.Process.{Process}
-use Rattle.model.specs.Choice.{if◌then◌else◌}
+use Rattle.std.specs.Prelude.{if◌then◌else◌}
 use Rattle.model.specs.Layout.{limits}
 use Rattle.model.specs.State.{no_process, process_at, with_event}
 use Rattle.process.specs.ProcessWords.{sizes, process_words, process_from, known_process}

@@ -10,7 +10,7 @@ use lib.Seq.{sets, sets-eq, set-get_or, set_out, get_or-set_same, length-take-le
 use borrow.Author.Tests.{ltb-true, ltb-false}
 use Rattle.model.specs.declared.types.Counts.{Counts}
 use Rattle.model.specs.declared.types.Process.{Process}
-use Rattle.model.specs.Choice.{if◌then◌else◌}
+use Rattle.std.specs.Prelude.{if◌then◌else◌}
 use Rattle.model.specs.Layout.{limits}
 use Rattle.model.specs.State.{no_process, process_at, with_event}
 use Rattle.layout.specs.Head.{header_words, header_offsets, header_of, head_offsets, head_at}

@@ -4,7 +4,7 @@ use Rattle.std.proofs.lemmas.List.Edits.{sets}
 use Rattle.model.specs.declared.types.Counts.{Counts}
 use Rattle.model.specs.declared.types.State.{State}
 use Rattle.model.specs.declared.types.Process.{Process}
-use Rattle.model.specs.Choice.{if◌then◌else◌}
+use Rattle.std.specs.Prelude.{if◌then◌else◌}
 use Rattle.model.specs.Layout.{limits}
 use Rattle.model.specs.State.{process_at}
 use Rattle.layout.specs.Head.{bit, header_offsets, header_of, head_offsets, head_at}

@@ -13,7 +13,7 @@ use Rattle.model.specs.declared.types.Status.{Status}
 use Rattle.model.specs.declared.types.Permit.{Permit}
 use Rattle.model.specs.declared.types.Permit.TheVariants.{Denied}
 use Rattle.model.specs.declared.types.Refusal.TheVariants.{Corrupt}
-use Rattle.model.specs.Choice.{if◌then◌else◌}
+use Rattle.std.specs.Prelude.{if◌then◌else◌}
 use Rattle.model.specs.Calls.{Opened, open_of, begun, start_of, Stepped, store_of, step_permit, step_of, look_of, status_of}
 use Rattle.model.specs.Inspection.{inspect_of}
 use Rattle.model.specs.State.{lawful_store}

@@ -9,7 +9,7 @@ use lib.Dec.{T, eqb}
 use lib.ListN.{length, get_or, take}
 use lib.Seq.{take-suc, take_all}
 use Rattle.linearizability.specs.Types.{Kind, Idle, Put, Get, Scan, Call, Process}
-use Rattle.model.specs.Choice.{if◌then◌else◌}
+use Rattle.std.specs.Prelude.{if◌then◌else◌}
 use Rattle.model.specs.Requests.{Operation, put, get, scan, kind_of}
 use Rattle.model.specs.Map.{Map, applied}
 use Rattle.model.specs.Calls.{Store, standing, status_of}

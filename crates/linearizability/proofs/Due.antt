@@ -8,7 +8,7 @@ use native.Mathlib.Omega.{arith}
 use borrow.Author.Tests.{eqb-true}
 use lib.Dec.{eqb, ltb, leb}
 use Rattle.linearizability.specs.Types.{Refusal, NoProcess, BadKey, BadRange, Busy, NoCall, Spent, Version, Permit, Granted, Denied, Starting, Stepping, Looking}
-use Rattle.model.specs.Choice.{if◌then◌else◌}
+use Rattle.std.specs.Prelude.{if◌then◌else◌}
 use Rattle.model.specs.Numbers.{number_of}
 use Rattle.model.specs.Requests.{first_of, last_of}
 use Rattle.model.specs.Map.{Map, versions_of, back_in, look_list, look_in}

@@ -9,7 +9,7 @@ use native.Mathlib.Omega.{arith}
 use lib.ListN.{length, get_or, take, length-append, get_or-append, get_or-eq_default}
 use lib.Seq.{get_or_at, take_at, take-append-le}
 use Rattle.linearizability.specs.Types.{Looking, BadKey, Found, Swept}
-use Rattle.model.specs.Choice.{if◌then◌else◌}
+use Rattle.std.specs.Prelude.{if◌then◌else◌}
 use Rattle.model.specs.Requests.{Operation, put, get, scan, kind_of}
 use Rattle.model.specs.Map.{Map, versions_of, Reply, get_from, applied, look_in}
 use Rattle.model.specs.Numbers.{no_version}

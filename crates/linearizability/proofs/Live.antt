@@ -9,7 +9,7 @@ use lib.Dec.{T, eqb, leb, le→leb}
 use lib.ListN.{length, get_or, set, length-append}
 use lib.Seq.{get_or-set_same, get_or-set_other}
 use Rattle.linearizability.specs.Types.{Kind, Idle, Put, Get, Scan, NoProcess, Call, Process, Status}
-use Rattle.model.specs.Choice.{if◌then◌else◌}
+use Rattle.std.specs.Prelude.{if◌then◌else◌}
 use Rattle.model.specs.Layout.{Memory, node_words, version_words, capacity, top, limits}
 use Rattle.model.specs.Map.{Map}
 use Rattle.model.specs.State.{no_process, idle_process, process_at, memory_of, with_event, lawful_nodes, lawful_versions, lawful_state, lawful_store}

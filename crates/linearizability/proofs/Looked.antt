@@ -9,7 +9,7 @@ use lib.Dec.{T, eqb, leb, leb→le}
 use lib.ListN.{length, get_or, take}
 use lib.Seq.{take_all}
 use Rattle.linearizability.specs.Types.{Version, BadKey, Looking}
-use Rattle.model.specs.Choice.{if◌then◌else◌}
+use Rattle.std.specs.Prelude.{if◌then◌else◌}
 use Rattle.model.specs.Layout.{Memory, limits, key, newest, prev}
 use Rattle.model.specs.Map.{Map, back_in, look_in}
 use Rattle.model.specs.Map as Seq

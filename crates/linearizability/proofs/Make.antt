@@ -9,7 +9,7 @@ use lib.Dec.{eqb, leb, nleb→lt}
 use lib.ListN.{length, get_or, length-append, get_or-append}
 use lib.Seq.{get_or_at}
 use Rattle.linearizability.specs.Types.{Release, VersionsFull, KeysFull, New, None, Call, Cursor, Process}
-use Rattle.model.specs.Choice.{if◌then◌else◌}
+use Rattle.std.specs.Prelude.{if◌then◌else◌}
 use Rattle.model.specs.Layout.{Memory, node_words, version_words, top_level, capacity, word, field, key, newest, top, next, lock, node_record, with_node, with_next, with_version, link_at, lock_at, levels}
 use Rattle.model.specs.Map.{Entry, Map, answered, put_by, put_in}
 use Rattle.model.specs.Phases.{own_version, max_nodes, max_versions, committed, add_node, make_of}

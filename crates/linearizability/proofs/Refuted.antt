@@ -8,7 +8,7 @@ use native.Mathlib.Omega.{arith}
 use lib.Dec.{T, eqb, lit<}
 use lib.ListN.{take, replicate, length-replicate}
 use Rattle.linearizability.specs.Types.{NodeLength, NoKey, Answer, TooOld, New, Found, None, Busy, Damaged, Version, Granted, Denied, Finish, Starting, Stepping, Looking, Status}
-use Rattle.model.specs.Choice.{if◌then◌else◌}
+use Rattle.std.specs.Prelude.{if◌then◌else◌}
 use Rattle.model.specs.Layout.{limits}
 use Rattle.model.specs.Numbers.{answer_number, no_version}
 use Rattle.model.specs.Requests as Requests

@@ -5,7 +5,7 @@ use mathlib.Core.Path.{◌≡◌, refl, ap}
 use native.Mathlib.Omega.{arith}
 use lib.Dec.{lit<, lit≤}
 use Rattle.linearizability.specs.Types.{Swept, Item, Starting, Stepping}
-use Rattle.model.specs.Choice.{if◌then◌else◌}
+use Rattle.std.specs.Prelude.{if◌then◌else◌}
 use Rattle.model.specs.Numbers.{no_version}
 use Rattle.model.specs.Requests as Requests
 use Rattle.model.specs.Requests.{Operation}

@@ -9,7 +9,7 @@ use lib.Dec.{ltb, leb}
 use lib.ListN.{length, get_or, set, length-set}
 use lib.Seq.{get_or-set_same, get_or-set_other}
 use Rattle.linearizability.specs.Types.{Release, Answer, TooOld, VersionsFull, Added, None, Call, Cursor, Process, Version}
-use Rattle.model.specs.Choice.{if◌then◌else◌}
+use Rattle.std.specs.Prelude.{if◌then◌else◌}
 use Rattle.model.specs.Layout.{Memory, version_words, capacity, word, field, key, newest, next, timestamp, with_newest, with_version, node_words, link_at, lock_at, node_offsets, levels}
 use Rattle.model.specs.Map.{Map, held, pushed, answered, put_by, put_in}
 use Rattle.model.specs.Phases.{own_version, used_node, used_version, max_nodes, max_versions, committed, add_version, update_node, update_at, update_of}

@@ -17,7 +17,7 @@ use Rattle.model.specs.Types.{Busy, NoCall, Spent, Corrupt, Damaged, NoKey, NoVe
 use Rattle.model.specs.Types.{Phase, Walk, Read, Seek, Lock, Check, Update, Make, Link, Release, Follow}
 use Rattle.model.specs.Types.{Ahead, Unused, Less, Equal, Past, Move, Refuse, Wait, Go, Note, Commit, Show, End}
 use Rattle.model.specs.Types.{Permit, Granted, Denied, Call, Cursor, Effect, Process, State, Version, Opening, Starting, Stepping, Looking}
-use Rattle.model.specs.Choice.{if◌then◌else◌}
+use Rattle.std.specs.Prelude.{if◌then◌else◌}
 use Rattle.model.specs.Layout.{limits, top_level, levels, Memory, newest, prev}
 use Rattle.model.specs.Numbers.{number_of, answer_number, is_counted, refusals, refusal_of, answers, answer_of}
 use Rattle.model.specs.Requests.{Fitting, Operation, first_of, last_of}
@@ -113,7 +113,7 @@ pub lawful_key_lem : (k : ℕ) → (lawful_key k ≡ true) ↔ ((1 ≤ k) × (k 
 lawful_key_lem k = simp (and-eq-true_iff, leb_iff) ((λ h. h), (λ h. h))
 
 -- what holds of both branches holds of the choice
-choice {ℓ} : {A : Type ℓ} (P : A → Type 0) (b : Bool) (x y : A) → (b ≡ true → P x) → (b ≡ false → P y)
+choice : {A : Type 0} (P : A → Type 0) (b : Bool) (x y : A) → (b ≡ true → P x) → (b ≡ false → P y)
     → P (if b then x else y)
 choice P true x y f g = f refl
 choice P false x y f g = g refl

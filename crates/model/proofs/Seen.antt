@@ -6,7 +6,7 @@ use mathlib.Core.Path.{◌≡◌, refl}
 use lib.Dec.{eqb}
 use lib.ListN.{length}
 use Rattle.model.specs.Types.{Refusal, Permit, Granted, Denied, Starting, Stepping, Looking, Status}
-use Rattle.model.specs.Choice.{if◌then◌else◌}
+use Rattle.std.specs.Prelude.{if◌then◌else◌}
 use Rattle.model.specs.Numbers.{number_of}
 use Rattle.model.specs.Requests.{Operation}
 use Rattle.model.specs.History.{Action, start, step, Observation, started, stepped, looked, Pending, no_call, has_call, updated, Sight, due, Completed, finished, Query, History, log_of, pending_in, sights_in, starts_in, completed_in, queries_in, noted}

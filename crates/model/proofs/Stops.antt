@@ -2,22 +2,22 @@
 use mathlib.Core.Bool.{Bool, true, false, not}
 use mathlib.Core.Path.{◌≡◌, refl}
 use lib.Dec.{T}
-use Rattle.model.specs.Choice.{if◌then◌else◌}
+use Rattle.std.specs.Prelude.{if◌then◌else◌}
 
 -- where stopping is impossible, the test was passed
-pub if-passed {ℓ} : {A : Type ℓ} (P : A → Type 0) (b : Bool) {x y : A}
+pub if-passed : {A : Type 0} (P : A → Type 0) (b : Bool) {x y : A}
     → (T b → P x → ⊥) → P (if b then x else y) → T (not b) × P y
 if-passed P true out h = absurd (out tt h)
 if-passed P false out h = (tt, h)
 
 -- where going on is impossible, the test was met
-pub if-met {ℓ} : {A : Type ℓ} (P : A → Type 0) (b : Bool) {x y : A}
+pub if-met : {A : Type 0} (P : A → Type 0) (b : Bool) {x y : A}
     → (T (not b) → P y → ⊥) → P (if b then x else y) → T b × P x
 if-met P true out h = (tt, h)
 if-met P false out h = absurd (out tt h)
 
 -- runs that stop alike agree where they agree behind the test
-pub if-same {ℓ} : {A : Type ℓ} (b : Bool) (x : A) {y z : A}
+pub if-same : {A : Type 0} (b : Bool) (x : A) {y z : A}
     → (T (not b) → y ≡ z) → (if b then x else y) ≡ (if b then x else z)
 if-same true x h = refl
 if-same false x h = h tt

@@ -5,17 +5,17 @@ use mathlib.Core.Logic.{◌≢◌, ◌↔◌}
 use mathlib.Core.Path.{◌≡◌, refl, sym, subst}
 use lib.Dec.{T, eqb, leb, ltb, eqb→eq, eqb_refl, leb→le, nleb→lt}
 use borrow.Author.Tests.{leb-true, le-leb, eqb-true, eq-eqb}
-use Rattle.model.specs.Choice.{if◌then◌else◌}
+use Rattle.std.specs.Prelude.{if◌then◌else◌}
 
-pub if-by {ℓ} : {A : Type ℓ} (P : A → Type 0) (b : Bool) {x y : A} → (T b → P x) → (T (not b) → P y) → P (if b then x else y)
+pub if-by : {A : Type 0} (P : A → Type 0) (b : Bool) {x y : A} → (T b → P x) → (T (not b) → P y) → P (if b then x else y)
 if-by P true f g = f tt
 if-by P false f g = g tt
 
-pub if_yes {ℓ} : {A : Type ℓ} (b : Bool) (x y : A) → T b → (if b then x else y) ≡ x
+pub if_yes : {A : Type 0} (b : Bool) (x y : A) → T b → (if b then x else y) ≡ x
 if_yes true x y t = refl
 if_yes false x y t = absurd t
 
-pub if_no {ℓ} : {A : Type ℓ} (b : Bool) (x y : A) → T (not b) → (if b then x else y) ≡ y
+pub if_no : {A : Type 0} (b : Bool) (x y : A) → T (not b) → (if b then x else y) ≡ y
 if_no true x y t = absurd t
 if_no false x y t = refl
 
@@ -72,11 +72,11 @@ by_le m n f g = by_test (leb m n) (λ t. f (leb→le m n t)) (λ t. g (nleb→lt
 -- ---- the branch taken, by the number's test
 
 -- a choice by equality
-pub if-eq {ℓ} : {A : Type ℓ} (P : A → Type 0) (m n : ℕ) {x y : A} → (m ≡ n → P x) → (m ≢ n → P y) → P (if eqb m n then x else y)
+pub if-eq : {A : Type 0} (P : A → Type 0) (m n : ℕ) {x y : A} → (m ≡ n → P x) → (m ≢ n → P y) → P (if eqb m n then x else y)
 if-eq P m n f g = if-by P (eqb m n) (λ t. f (eqb→eq m n t)) (λ t. g (neqb→ne m n t))
 
-pub if-le {ℓ} : {A : Type ℓ} (P : A → Type 0) (m n : ℕ) {x y : A} → (m ≤ n → P x) → (n < m → P y) → P (if leb m n then x else y)
+pub if-le : {A : Type 0} (P : A → Type 0) (m n : ℕ) {x y : A} → (m ≤ n → P x) → (n < m → P y) → P (if leb m n then x else y)
 if-le P m n f g = if-by P (leb m n) (λ t. f (leb→le m n t)) (λ t. g (nleb→lt m n t))
 
-pub if-lt {ℓ} : {A : Type ℓ} (P : A → Type 0) (m n : ℕ) {x y : A} → (m < n → P x) → (n ≤ m → P y) → P (if ltb m n then x else y)
+pub if-lt : {A : Type 0} (P : A → Type 0) (m n : ℕ) {x y : A} → (m < n → P x) → (n ≤ m → P y) → P (if ltb m n then x else y)
 if-lt P m n f g = if-by P (ltb m n) (λ t. f (lib.Dec.ltb→lt m n t)) (λ t. g (lib.Dec.nltb→le m n t))

@@ -3,7 +3,7 @@
 use Rattle.std.specs.Prelude.{ℕ, zero, suc, ◌+◌, Bool, not, ◌&&◌, List, eqb, ltb, leb, length, get_or, set, replicate}
 use Rattle.std.specs.Int.Count.{count_trailing_zeros}
 use Rattle.model.specs.Types.{Kind, Put, Get, Scan, Walk, Answer, None, Refusal, NodeLength, VersionLength, ProcessCount, EventLimit, NoProcess, BadKey, BadRange, Busy, NoCall, Spent, Corrupt, Damaged, NoKey, NoVersion, Call, Process, State, Permit, Granted, Denied, Move, Refuse, Wait, Go, Note, Commit, Show, End, Opening, OpenResult, Starting, StartResult, Stepping, Looking, Status}
-use Rattle.model.specs.Choice.{if◌then◌else◌}
+use Rattle.std.specs.Prelude.{if◌then◌else◌}
 use Rattle.model.specs.Layout.{Memory, top_level, levels, limits, key, newest, prev, version_at, fresh_nodes}
 use Rattle.model.specs.Numbers.{answer_number, is_counted}
 use Rattle.model.specs.Roles.{is_idle}

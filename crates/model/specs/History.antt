@@ -2,7 +2,7 @@
 -- events, the call that each process has and what it has shown, the finished calls, the looks, and which refusal was due.
 use Rattle.std.specs.Prelude.{ℕ, suc, Bool, true, false, not, ◌&&◌, List, [], ◌∷◌, ◌++◌, eqb, ltb, leb, length}
 use Rattle.model.specs.Types.{NoProcess, BadKey, BadRange, Busy, NoCall, Spent, Permit, Granted, Denied, Item, Finish, Starting, Stepping, Looking}
-use Rattle.model.specs.Choice.{if◌then◌else◌}
+use Rattle.std.specs.Prelude.{if◌then◌else◌}
 use Rattle.model.specs.Requests.{Fitting, Operation, first_of, last_of}
 use Rattle.model.specs.State.{lawful_key}
 use Rattle.model.specs.Calls.{deny_if}

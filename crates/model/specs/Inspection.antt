@@ -1,7 +1,7 @@
 -- Document 01, "Inspection": the walk of every level along the links, to the first fault.
 use Rattle.std.specs.Prelude.{ℕ, zero, suc, ◌+◌, Bool, true, false, not, ◌&&◌, List, eqb, ltb, leb}
 use Rattle.model.specs.Types.{State, Corrupt, Busy, Permit, Granted, Denied, Inspecting}
-use Rattle.model.specs.Choice.{if◌then◌else◌}
+use Rattle.std.specs.Prelude.{if◌then◌else◌}
 use Rattle.model.specs.Layout.{Memory, levels, key, newest, top, next, lock, timestamp, prev}
 use Rattle.model.specs.State.{process_at, memory_of, lawful_store}
 use Rattle.model.specs.Phases.{used_version}

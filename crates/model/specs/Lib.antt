@@ -1,5 +1,4 @@
 pub mod Types
-pub mod Choice
 pub mod Layout
 pub mod Numbers
 pub mod Roles

@@ -11,7 +11,7 @@
 --   sweep of a span                  scan
 use Rattle.std.specs.Prelude.{ℕ, zero, suc, ◌+◌, ◌*◌, ◌≤◌, ◌<◌, Bool, true, false, List, [], ◌∷◌, ◌++◌, ◌≢◌, ◌⊎◌, ◌≡◌, eqb, leb, length, get_or}
 use Rattle.model.specs.Types.{Found, Swept, NoProcess, Busy, Permit, Granted, Denied, Counts, Finish, Starting, Stepping, Looking, Inspecting, Status}
-use Rattle.model.specs.Choice.{if◌then◌else◌}
+use Rattle.std.specs.Prelude.{if◌then◌else◌}
 use Rattle.model.specs.Layout.{limits, node_words, version_words}
 use Rattle.model.specs.Numbers.{number_of, answer_number, no_version}
 use Rattle.model.specs.Requests.{Fitting, Operation, put, get, scan, kind_of}

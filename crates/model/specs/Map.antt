@@ -1,7 +1,7 @@
 -- The sequential map: document 01's plain ledger.
 use Rattle.std.specs.Prelude.{ℕ, zero, suc, ◌+◌, List, [], ◌∷◌, ◌++◌, eqb, ltb, leb, length}
 use Rattle.model.specs.Types.{Answer, TooOld, VersionsFull, Added, KeysFull, New, Found, None, Swept, Version, Looking, NoKey, NoVersion}
-use Rattle.model.specs.Choice.{if◌then◌else◌}
+use Rattle.std.specs.Prelude.{if◌then◌else◌}
 use Rattle.model.specs.Numbers.{no_version}
 use Rattle.model.specs.Requests.{Operation, put, get, scan}
 

@@ -2,7 +2,7 @@
 -- that it leaves. All of a step's refusal 11 is here: a move `Refuse` leaves the memory as it was.
 use Rattle.std.specs.Prelude.{ℕ, ◌+◌, ◌-◌, Bool, true, false, not, ◌&&◌, ◌||◌, List, eqb, ltb, leb, length, get_or}
 use Rattle.model.specs.Types.{Kind, Idle, Put, Get, Scan, Phase, Walk, Read, Seek, Lock, Check, Update, Make, Link, Release, Follow, Role, Searching, Reading, Writing, Releasing, Following, Answer, TooOld, VersionsFull, Added, KeysFull, New, Found, None, Swept, Call, Cursor, Effect, Process, Version, Ahead, Unused, Less, Equal, Past, Move, Refuse, Wait, Go, Note, Commit, Show, End}
-use Rattle.model.specs.Choice.{if◌then◌else◌}
+use Rattle.std.specs.Prelude.{if◌then◌else◌}
 use Rattle.model.specs.Layout.{Memory, node_words, version_words, top_level, capacity, key, newest, next, lock, timestamp, version_at, with_newest, with_next, with_lock, with_node, with_version}
 use Rattle.model.specs.Numbers.{no_version}
 use Rattle.model.specs.Roles.{is_put, role_of, plays, from_put, is_new, version_with}

@@ -1,7 +1,7 @@
 -- Document 01, "Sheet program": the line that an answer prints.
 use Rattle.std.specs.Prelude.{ℕ, ◌+◌, List, [], ◌∷◌, ◌++◌, leb, length}
 use Rattle.std.proofs.lemmas.List.Edits.{sets}
-use Rattle.model.specs.Choice.{if◌then◌else◌}
+use Rattle.std.specs.Prelude.{if◌then◌else◌}
 use Rattle.model.specs.Numbers.{number_of}
 use Rattle.printer.specs.Types.{Kind, Answer, TooOld, VersionsFull, Added, KeysFull, New, Found, None, Swept, Line, Opened, Started, Stepped, Waited, Done, Looked, Sound, Fault, Refused}
 use Rattle.printer.specs.Text.{ascii, decimal, line}

@@ -1,7 +1,7 @@
 -- What a line says: a format for each half of it, and the key and the numbers that stand in their places.
 use Rattle.std.specs.Prelude.{ℕ, ◌+◌, ◌-◌, ◌≤◌, ◌&&◌, ◌≡◌, List, [], ◌∷◌, ◌++◌, eqb, leb, get_or}
 use Prim.Native.Char.{code}
-use Rattle.model.specs.Choice.{if◌then◌else◌}
+use Rattle.std.specs.Prelude.{if◌then◌else◌}
 use Rattle.printer.specs.Types.{Kind, Answer, Sentence}
 use Rattle.printer.specs.Text.{ascii, decimal, spaced, line}
 use Rattle.printer.specs.Lines.{kind_word, answer_word}

@@ -1,6 +1,6 @@
 -- What the program writes where its reads bring the sheet from its front on and its pages are taken: what the sheet prints.
 use Rattle.std.specs.Prelude.{ℕ, ◌≤◌, true, false, List, [], ◌∷◌, ◌++◌, ◌≡◌, length, take, drop}
-use Rattle.model.specs.Choice.{if◌then◌else◌}
+use Rattle.std.specs.Prelude.{if◌then◌else◌}
 use Rattle.printer.specs.Lines.{text}
 use Rattle.buffers.specs.Session.{session}
 use Rattle.interpreter.specs.declared.types.Needs.{Needs}

@@ -1,7 +1,7 @@
 -- The program's run: its bytes lie in a buffer, of which a round plays those that are held.
 use Rattle.std.specs.Prelude.{ℕ, ◌+◌, ◌-◌, ◌≤◌, ◌<◌, min, Bool, true, false, List, [], ◌∷◌, ◌++◌, ◌≢◌, ◌≡◌, eqb, ℤ, pos, negsuc, length, take, drop}
 use Rattle.model.specs.declared.types.State.{State}
-use Rattle.model.specs.Choice.{if◌then◌else◌}
+use Rattle.std.specs.Prelude.{if◌then◌else◌}
 use Rattle.printer.specs.Lines.{room}
 use Rattle.buffers.specs.Session.{session}
 use Rattle.interpreter.specs.declared.types.Needs.{Needs}

@@ -9,7 +9,7 @@ use lib.ListN.{length, get_or, set, drop}
 use lib.Seq.{drop-cons, drop-length, set-get_or}
 use Rattle.model.specs.declared.types.Answer.{Answer}
 use Rattle.model.specs.declared.types.Answer.TheVariants.{TooOld, VersionsFull, Added, KeysFull, New, Found, None, Swept}
-use Rattle.model.specs.Choice.{if◌then◌else◌}
+use Rattle.std.specs.Prelude.{if◌then◌else◌}
 use Rattle.model.specs.Layout.{limits}
 use Rattle.model.specs.Numbers.{answer_number}
 use Rattle.model.specs.Calls.{counted}

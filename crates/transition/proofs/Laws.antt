@@ -9,7 +9,7 @@ use Rattle.model.specs.declared.types.Cursor.{Cursor}
 use Rattle.model.specs.declared.types.Effect.{Effect}
 use Rattle.model.specs.declared.types.Process.{Process}
 use Rattle.model.specs.declared.types.Move.TheVariants.{Refuse}
-use Rattle.model.specs.Choice.{if◌then◌else◌}
+use Rattle.std.specs.Prelude.{if◌then◌else◌}
 use Rattle.model.specs.Layout.{Memory, top_level}
 use Rattle.model.specs.Phases.{Moved, moved, lawful_process, phase_of, transition_of, refuses}
 use Rattle.model.proofs.Tests.{leb_iff}

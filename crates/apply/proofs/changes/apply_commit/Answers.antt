@@ -1,6 +1,5 @@
 -- The cursor is written, then the effect: `commits`.
 use Rattle.apply.proofs.Applied.{commits}
-use borrow.Author.Rules.{rules}
 use Rattle.apply.proofs.changes.apply_commit.Goals as goal
 
 pub returns : goal.returns

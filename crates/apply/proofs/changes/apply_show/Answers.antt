@@ -1,7 +1,6 @@
 -- The cursor is written: `shows`.
 use mathlib.Core.Path.{◌∙◌}
 use Rattle.apply.proofs.Applied.{shows}
-use borrow.Author.Rules.{rules}
 use Rattle.apply.proofs.changes.apply_show.Goals as goal
 
 pub returns : goal.returns

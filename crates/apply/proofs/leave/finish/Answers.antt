@@ -8,7 +8,6 @@ use Rattle.model.specs.Calls.{process_after, outcome_of}
 use Rattle.process.specs.ProcessWords.{sizes, process_words}
 use Rattle.layout.proofs.Known.{part_long}
 use Rattle.apply.proofs.Left.{left_moved}
-use borrow.Author.Rules.{rules}
 use Rattle.apply.proofs.leave.finish.Goals as goal
 
 pub returns : goal.returns

@@ -1,16 +1,12 @@
 -- Each arm's move is known: what it leaves of the process in its part, and the event, by `left_moved`.
-use Prim.Native.Nat.{◌+◌, ◌-◌, ◌≤◌}
-use mathlib.Core.Bool.{true}
-use mathlib.Core.Path.{◌≡◌, refl, sym, ap, subst, ◌∙◌}
+use Prim.Native.Nat.{◌+◌, ◌≤◌}
+use mathlib.Core.Path.{refl, ◌∙◌}
 use native.Mathlib.Omega.{arith}
-use lib.ListN.{length, take, drop}
-use Rattle.model.specs.Layout.{top_level}
+use lib.ListN.{length}
 use Rattle.model.specs.Calls.{outcome_of, tally_after}
-use Rattle.model.specs.Phases.{refuses}
-use Rattle.process.specs.ProcessWords.{sizes, process_from, known_process}
-use Rattle.layout.proofs.Known.{part_is, part_long}
-use Rattle.apply.proofs.Left.{left_refused, left_moved, left_waits, left_goes}
-use borrow.Author.Rules.{rules}
+use Rattle.process.specs.ProcessWords.{sizes}
+use Rattle.layout.proofs.Known.{part_long}
+use Rattle.apply.proofs.Left.{left_moved, left_waits, left_goes}
 use Rattle.apply.proofs.leave.leave.Goals as goal
 
 pub returns-in-Wait : goal.returns-in-Wait

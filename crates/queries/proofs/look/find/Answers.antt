@@ -1,9 +1,6 @@
 -- The loop keeps: the search behind the x nodes passed finds what the whole search finds.
-use Prim.Native.Nat.{◌+◌, ◌-◌, ◌≤◌}
-use mathlib.Core.Path.{◌≡◌, ◌∙◌, sym}
+use mathlib.Core.Path.{◌∙◌, sym}
 use native.Mathlib.Omega.{arith}
-use borrow.Author.Rules.{rules}
-use Rattle.model.specs.Calls.{find_from}
 use Rattle.queries.proofs.LookTurns.{find_hit, find_miss, find_end}
 use Rattle.queries.proofs.look.find.Goals as goal
 

@@ -1,9 +1,7 @@
 -- The loop keeps: the search behind the x nodes passed finds what the whole search finds.
 use Prim.Native.Nat.{◌+◌, ◌-◌, ◌≤◌}
-use mathlib.Core.Path.{◌≡◌, ◌∙◌, sym}
-use native.Mathlib.Omega.{arith}
+use mathlib.Core.Path.{◌≡◌}
 use Rattle.model.specs.Calls.{find_from}
-use Rattle.queries.proofs.LookTurns.{find_hit, find_miss, find_end}
 use Rattle.queries.proofs.look.find.Given as goal
 
 abbrev pub invariant-loop-x : goal.invariant-loop-x

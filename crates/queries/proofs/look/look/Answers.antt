@@ -1,7 +1,6 @@
 -- A granted permit gives room in both tables.
-use mathlib.Core.Path.{◌≡◌, sym, ◌∙◌}
-use borrow.Author.Rules.{rules}
-use Rattle.model.specs.Calls.{look_permit, look_by, look_of}
+use mathlib.Core.Path.{sym, ◌∙◌}
+use Rattle.model.specs.Calls.{look_by, look_of}
 use Rattle.refusals.proofs.Laws.{may_look}
 use Rattle.queries.proofs.look.look.Goals as goal
 

@@ -1,7 +1,5 @@
 -- The node found is in use or 0.
 use native.Mathlib.Omega.{arith}
-use borrow.Author.Rules.{rules}
-use Rattle.model.specs.Calls.{look_by}
 use Rattle.queries.proofs.LookTurns.{find_within}
 use Rattle.queries.proofs.look.look_granted.Goals as goal
 

@@ -1,9 +1,7 @@
 -- The loop keeps: what lies `left` places behind i is what the whole look shows.
 use Prim.Native.Nat.{◌≤◌}
-use mathlib.Core.Path.{◌≡◌, ◌∙◌, sym}
-use native.Mathlib.Omega.{arith}
+use mathlib.Core.Path.{◌≡◌}
 use Rattle.model.specs.Calls.{back_from}
-use Rattle.queries.proofs.LookTurns.{back_damaged, back_short, back_on, back_end}
 use Rattle.queries.proofs.look.version_back.Given as goal
 
 abbrev pub invariant-loop-left : goal.invariant-loop-left

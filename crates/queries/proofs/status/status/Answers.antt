@@ -1,5 +1,4 @@
 -- What is told is read at the process's number, which a granted permit puts within the array.
-use Rattle.model.specs.Calls.{status_by, status_of}
 use mathlib.Core.Path.{sym}
 use Rattle.refusals.proofs.Laws.{may_tell}
 use borrow.Author.Rules.{rules}

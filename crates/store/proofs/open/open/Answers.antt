@@ -1,6 +1,6 @@
 -- A refusal leaves both tables; where none is due, the lengths fit 32 bits and the head has room.
 use Rattle.model.specs.Calls.{open_by, open_of}
-use Rattle.refusals.proofs.Laws.{MayOpen, may_open}
+use Rattle.refusals.proofs.Laws.{may_open}
 use borrow.Author.Rules.{rules}
 use Rattle.store.proofs.open.open.Goals as goal
 

@@ -1,10 +1,10 @@
 -- A start that is let pass puts the call at its process's number.
 use native.Mathlib.Omega.{arith}
-use Rattle.refusals.proofs.Laws.{MayStart, may_start}
-use Rattle.model.specs.Calls.{start_permit, start_by}
-use mathlib.Core.Path.{◌≡◌, sym}
+use Rattle.refusals.proofs.Laws.{may_start}
+use Rattle.model.specs.Calls.{start_by}
+use mathlib.Core.Path.{sym}
 use borrow.Author.Rules.{rules}
-use Rattle.calls.proofs.Places.{slot_below, slot_own}
+use Rattle.calls.proofs.Places.{slot_own}
 use Rattle.store.proofs.start.start.Goals as goal
 
 -- in each, the permit is the definition's: the kind was read at the process's own place
@@ -12,7 +12,7 @@ pub overflow_add-tick : goal.overflow_add-tick
 overflow_add-tick c =
     let a = c.args in
     let is = c.start_permit-permit.ensures a.s
-        (record { same = sym c.header_of-h.ensures; found = λ h. simp (slot_own _ _ c.slot-i.ensures h) }) in
+    (record { same = sym c.header_of-h.ensures; found = λ h. simp (slot_own _ _ c.slot-i.ensures h) }) in
     let f = may_start _ _ _ _ _ _ is c.in-Granted.is in
     search rules
 
@@ -21,7 +21,7 @@ unfolding start_by
 returns-in-Denied c =
     let a = c.args in
     let is = c.start_permit-permit.ensures a.s
-        (record { same = sym c.header_of-h.ensures; found = λ h. simp (slot_own _ _ c.slot-i.ensures h) }) in
+    (record { same = sym c.header_of-h.ensures; found = λ h. simp (slot_own _ _ c.slot-i.ensures h) }) in
     simp (← is, c.in-Denied.is)
 
 pub returns-in-Granted : goal.returns-in-Granted
@@ -29,7 +29,7 @@ unfolding start_by
 returns-in-Granted c =
     let a = c.args in
     let is = c.start_permit-permit.ensures a.s
-        (record { same = sym c.header_of-h.ensures; found = λ h. simp (slot_own _ _ c.slot-i.ensures h) }) in
+    (record { same = sym c.header_of-h.ensures; found = λ h. simp (slot_own _ _ c.slot-i.ensures h) }) in
     let f = may_start _ _ _ _ _ _ is c.in-Granted.is in
     let i = slot_own _ _ c.slot-i.ensures (omega arith) in
     simp (c.begin.ensures, i, ← is, c.in-Granted.is)

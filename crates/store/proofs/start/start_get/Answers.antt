@@ -1,6 +1,5 @@
 -- `start` with a get's operands.
 use Rattle.model.specs.Calls.{call_for, start_of}
-use borrow.Author.Rules.{rules}
 use Rattle.store.proofs.start.start_get.Goals as goal
 
 pub returns : goal.returns

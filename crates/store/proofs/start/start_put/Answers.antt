@@ -1,6 +1,5 @@
 -- `start` with a put's operands and the top that its draw gives.
 use Rattle.model.specs.Calls.{call_for, start_of}
-use borrow.Author.Rules.{rules}
 use Rattle.store.proofs.start.start_put.Goals as goal
 
 pub returns : goal.returns

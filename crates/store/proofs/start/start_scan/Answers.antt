@@ -1,6 +1,5 @@
 -- `start` with a scan's operands.
 use Rattle.model.specs.Calls.{call_for, start_of}
-use borrow.Author.Rules.{rules}
 use Rattle.store.proofs.start.start_scan.Goals as goal
 
 pub returns : goal.returns

@@ -4,7 +4,6 @@ use lib.ListN.{length}
 use borrow.Author.Rules.{rules}
 use Rattle.model.specs.Phases.{transition_of, refuses}
 use Rattle.tables.specs.Room.{memory}
-use Rattle.phases.specs.Ready.{leaves}
 use Rattle.process.specs.ProcessWords.{sizes, process_from}
 use Rattle.process.proofs.RoundTrip.{process_from_lem, process_short}
 use Rattle.calls.specs.Advance.{advance_of, advance_by}
@@ -23,8 +22,8 @@ returns-then-is_refusal c =
     let long : length w.result ≡ sizes.process = search rules in
     let six = process_short a.p (sym (ap length w.ensures) ∙ long) in
     let turned = c.transition-t.ensures
-        ∙ ap (λ (p : Process). transition_of a.holder a.tick p (memory a.nodes.now a.versions.now a.counts))
-        (ap process_from w.ensures ∙ process_from_lem a.p six) in
+    ∙ ap (λ (p : Process). transition_of a.holder a.tick p (memory a.nodes.now a.versions.now a.counts))
+    (ap process_from w.ensures ∙ process_from_lem a.p six) in
     refused_advance a.tick a.p a.tally.now c.transition-t.result.mv _
     (sym c.is_refusal.ensures ∙ c.if-is_refusal.true)
     ∙ ap (advance_by a.tick a.p a.tally.now) turned
@@ -36,8 +35,8 @@ process_after-process-requires c =
     let long : length w.result ≡ sizes.process = search rules in
     let six = process_short a.p (sym (ap length w.ensures) ∙ long) in
     let turned = c.transition-t.ensures
-        ∙ ap (λ (p : Process). transition_of a.holder a.tick p (memory a.nodes.now a.versions.now a.counts))
-        (ap process_from w.ensures ∙ process_from_lem a.p six) in
+    ∙ ap (λ (p : Process). transition_of a.holder a.tick p (memory a.nodes.now a.versions.now a.counts))
+    (ap process_from w.ensures ∙ process_from_lem a.p six) in
     level_fits a.holder a.tick a.p _
     (sym (ap (λ v. refuses v.move) turned) ∙ sym c.is_refusal.ensures ∙ c.if-is_refusal.false)
 
@@ -49,8 +48,8 @@ returns c =
     let long : length w.result ≡ sizes.process = search rules in
     let six = process_short a.p (sym (ap length w.ensures) ∙ long) in
     let turned = c.transition-t.ensures
-        ∙ ap (λ (p : Process). transition_of a.holder a.tick p (memory a.nodes.now a.versions.now a.counts))
-        (ap process_from w.ensures ∙ process_from_lem a.p six) in
+    ∙ ap (λ (p : Process). transition_of a.holder a.tick p (memory a.nodes.now a.versions.now a.counts))
+    (ap process_from w.ensures ∙ process_from_lem a.p six) in
     moved_advance a.tick a.p a.tally.now c.transition-t.result.mv _ _ _ _
     (sym c.is_refusal.ensures ∙ c.if-is_refusal.false) c.outcome_of-outcome.ensures c.process_after-process.ensures
     c.count_end.ensures
