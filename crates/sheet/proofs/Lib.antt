@@ -1,6 +1,5 @@
 pub mod Standing
 pub mod Shifting
-pub mod Signs
 pub mod Refilling
 pub mod Paging
 pub mod Running

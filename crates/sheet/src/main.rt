@@ -18,5 +18,12 @@ fn main(rt: HostRuntime) {
     let mut tally = [0u32; Buffers::TALLY];
     let mut bytes = [0u8; PIECE];
     let mut out = [0u8; PIECE];
-    run(&rt, &mut bytes, &mut nodes, &mut versions, &mut tally, &mut out);
+    run(
+        &rt,
+        &mut bytes,
+        &mut nodes,
+        &mut versions,
+        &mut tally,
+        &mut out,
+    );
 }

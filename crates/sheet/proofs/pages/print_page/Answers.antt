@@ -1,0 +1,14 @@
+-- What is written is the page up to where its lines end, and whether it could be decides.
+use mathlib.Core.Path.{sym}
+use native.Mathlib.Omega.{arith}
+use lib.Seq.{length-take-le}
+use Rattle.sheet.proofs.Running.{settled_plays}
+use borrow.Author.Rules.{rules}
+use Rattle.sheet.proofs.pages.print_page.Goals as goal
+
+pub returns-clause-plays : goal.returns-clause-plays
+returns-clause-plays c =
+    let p = c.play_page-q in
+    let e = c.settle.ensures in
+    let w = c.write-written.result in
+    settled_plays _ w p.result _ _ _ _ _ _ p.ensures.out_after e p.ensures.next_in_bounds
