@@ -16,7 +16,7 @@ use Rattle.model.specs.Linearizability.{Linearizable}
 use Rattle.model.proofs.Laws.{granted_fits}
 use Rattle.linearizability.proofs.Simulated.{Same, SameOpening, Simulates, simulated}
 use Rattle.linearizability.proofs.Linearized as linearized
-use Rattle.buffers.specs.Session.{Session, session, Done, lent, back, table_words, buffers, opened_on, started, start_on, started_on, stepped_on, open_on, call_on}
+use Rattle.buffers.specs.Session.{Session, Done, lent, back, table_words, buffers, opened_on, started, start_on, started_on, stepped_on, open_on, call_on}
 use Rattle.executor.specs.Perform.{perform_of}
 use Rattle.interpreter.specs.Sheet.{first_session}
 use Rattle.buffers.proofs.Laws.{asked_permit}

@@ -1,7 +1,6 @@
 -- The opening on lent words, its outcome told.
 use Rattle.embed.specs.Calls.{tray_open}
 use Rattle.embed.proofs.Laws.{open_told_lem}
-use borrow.Author.Rules.{rules}
 use Rattle.embed.proofs.tray_open.Goals as goal
 
 pub returns : goal.returns

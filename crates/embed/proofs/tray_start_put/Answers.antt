@@ -1,7 +1,6 @@
 -- The start on lent words, its outcome told.
 use Rattle.embed.specs.Calls.{tray_start}
 use Rattle.embed.proofs.Laws.{start_told_lem}
-use borrow.Author.Rules.{rules}
 use Rattle.embed.proofs.tray_start_put.Goals as goal
 
 pub returns : goal.returns

@@ -1,7 +1,6 @@
 -- The step on lent words, its outcome told.
 use Rattle.embed.specs.Calls.{tray_step}
 use Rattle.embed.proofs.Laws.{step_told_lem}
-use borrow.Author.Rules.{rules}
 use Rattle.embed.proofs.tray_step.Goals as goal
 
 pub returns : goal.returns

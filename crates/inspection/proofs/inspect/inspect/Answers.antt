@@ -1,7 +1,5 @@
 -- A granted permit gives room in both tables.
 use mathlib.Core.Path.{sym, ◌∙◌}
-use borrow.Author.Rules.{rules}
-use Rattle.model.specs.Inspection.{inspect_by, inspect_of}
 use Rattle.refusals.proofs.Laws.{may_inspect}
 use Rattle.inspection.proofs.inspect.inspect.Goals as goal
 

@@ -4,16 +4,14 @@ use Prim.Native.Nat.{ℕ, suc, ◌+◌, ◌-◌, ◌≤◌, ◌<◌}
 use mathlib.Core.Bool.{true, false}
 use mathlib.Core.Path.{◌≡◌, refl, ◌∙◌, sym}
 use native.Mathlib.Omega.{arith}
-use borrow.Author.Rules.{rules}
-use lib.ListN.{get_or}
 use Rattle.model.specs.declared.types.Inspecting.{Inspecting}
 use Rattle.model.specs.Layout.{Memory, top_level, levels}
-use Rattle.model.specs.Inspection.{reaching, level_from, levels_from, inspection}
+use Rattle.model.specs.Inspection.{level_from, levels_from, inspection}
 use Rattle.model.proofs.LevelBound.{ahead, ahead_most}
 use Rattle.tables.specs.Room.{memory}
 use Rattle.inspection.specs.Faults.{chain_start, node_fault}
 use Rattle.inspection.proofs.ChainTurns.{left, pass_ends, pass_stops, pass_goes}
-use Rattle.inspection.proofs.LevelTurns.{node_stops, link_stops, level_short, level_whole, Onward, level_goes, level_starts}
+use Rattle.inspection.proofs.LevelTurns.{node_stops, link_stops, level_short, level_whole, level_goes, level_starts}
 use Rattle.inspection.proofs.LevelTurns.{levels_stop, levels_go, levels_end}
 use Rattle.inspection.proofs.NodeTurns.{wrong, node_wrong, chain_starts, chain_wrong, chain_right}
 use Rattle.inspection.proofs.TopTurns.{reaching_all, reaching_less}
@@ -65,7 +63,7 @@ chain-preserved c =
     let a = c.args in
     let m = memory a.nodes.now a.versions.now a.counts in
     let o = pass_goes m c.levels.level c.links.node c.chain.version (λ z. omega arith) c.chain.invariant.0
-        _ c.prev_at-prev.ensures _ c.version_fault.ensures c.if-version_fault.false in
+    _ c.prev_at-prev.ensures _ c.version_fault.ensures c.if-version_fault.false in
     (omega arith, c.chain.invariant.1 ∙ o.1)
 
 pub links-smaller : goal.links-smaller
@@ -77,7 +75,7 @@ links-smaller c =
     let faultless = sym (c.node_fault.ensures m.versions) ∙ c.if-node_fault.false in
     let r = right m l.level k.node c.chain.version faultless c.chain.invariant.1 (omega arith) in
     let o = level_goes m l.level k.seen k.node r _ c.next_at-next.ensures c.if-next-eq0.false
-        _ (c.link_fault.ensures m.versions m.counts.versions) c.if-link_fault.false in
+    _ (c.link_fault.ensures m.versions m.counts.versions) c.if-link_fault.false in
     o.nears
 
 pub links-preserved : goal.links-preserved
@@ -89,7 +87,7 @@ links-preserved c =
     let faultless = sym (c.node_fault.ensures m.versions) ∙ c.if-node_fault.false in
     let r = right m l.level k.node c.chain.version faultless c.chain.invariant.1 (omega arith) in
     let o = level_goes m l.level k.seen k.node r _ c.next_at-next.ensures c.if-next-eq0.false
-        _ (c.link_fault.ensures m.versions m.counts.versions) c.if-link_fault.false in
+    _ (c.link_fault.ensures m.versions m.counts.versions) c.if-link_fault.false in
     (o.used, omega arith, k.invariant.2 ∙ o.goes)
 
 pub overflow_sub-due : goal.overflow_sub-due
@@ -111,7 +109,7 @@ levels-preserved c =
     let faultless = sym (c.node_fault.ensures m.versions) ∙ c.if-node_fault.false in
     let r = right m l.level k.node c.chain.version faultless c.chain.invariant.1 (omega arith) in
     let whole = passes m l.level k.node k.seen l.invariant.0 l.invariant.2 k.invariant.2
-        (level_whole m l.level k.seen k.node r _ c.next_at-next.ensures c.if-next-eq0.true _ l.invariant.1 (omega arith)) in
+    (level_whole m l.level k.seen k.node r _ c.next_at-next.ensures c.if-next-eq0.true _ l.invariant.1 (omega arith)) in
     (omega arith, omega (arith, l.invariant.1), whole)
 
 pub returns-then-node_fault : goal.returns-then-node_fault
@@ -131,8 +129,8 @@ returns-then-version_fault c =
     let k = c.links in
     let faultless = sym (c.node_fault.ensures m.versions) ∙ c.if-node_fault.false in
     let w = wrong_chain m l.level k.node c.chain.version faultless c.chain.invariant.1
-        (pass_stops m l.level k.node c.chain.version (λ z. omega arith) c.chain.invariant.0
-        _ c.prev_at-prev.ensures _ c.version_fault.ensures c.if-version_fault.true) in
+    (pass_stops m l.level k.node c.chain.version (λ z. omega arith) c.chain.invariant.0
+    _ c.prev_at-prev.ensures _ c.version_fault.ensures c.if-version_fault.true) in
     stops m l.level k.node k.seen l.invariant.0 l.invariant.2 k.invariant.2 (node_stops m l.level k.seen k.node w)
 
 pub returns-then-link_fault : goal.returns-then-link_fault
@@ -167,5 +165,5 @@ returns-then-level-eq-TOP c =
     let faultless = sym (c.node_fault.ensures m.versions) ∙ c.if-node_fault.false in
     let r = right m l.level k.node c.chain.version faultless c.chain.invariant.1 (omega arith) in
     let whole = passes m l.level k.node k.seen l.invariant.0 l.invariant.2 k.invariant.2
-        (level_whole m l.level k.seen k.node r _ c.next_at-next.ensures c.if-next-eq0.true _ l.invariant.1 (omega arith)) in
+    (level_whole m l.level k.seen k.node r _ c.next_at-next.ensures c.if-next-eq0.true _ l.invariant.1 (omega arith)) in
     sym (whole ∙ levels_end m (l.level + 1) (omega arith))

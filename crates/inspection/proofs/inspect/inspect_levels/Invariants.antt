@@ -1,20 +1,12 @@
 -- The chain loop keeps: what is left of the pass gives the node's answer. The links loop keeps: what is left of the level's walk gives the
-use Prim.Native.Nat.{ℕ, suc, ◌+◌, ◌-◌, ◌≤◌, ◌<◌}
-use mathlib.Core.Bool.{false}
-use mathlib.Core.Path.{◌≡◌, refl, ◌∙◌, sym}
-use native.Mathlib.Omega.{arith}
-use lib.ListN.{get_or}
-use Rattle.model.specs.declared.types.Inspecting.{Inspecting}
-use Rattle.model.specs.Layout.{Memory, top_level, levels}
+use Prim.Native.Nat.{suc, ◌+◌, ◌-◌, ◌≤◌}
+use mathlib.Core.Path.{◌≡◌}
+use Rattle.model.specs.Layout.{top_level, levels}
 use Rattle.model.specs.Inspection.{reaching, level_from, levels_from, inspection}
-use Rattle.model.proofs.LevelBound.{ahead, ahead_most}
+use Rattle.model.proofs.LevelBound.{ahead}
 use Rattle.tables.specs.Room.{memory}
-use Rattle.inspection.specs.Faults.{chain_start, node_fault}
-use Rattle.inspection.proofs.ChainTurns.{left, pass_ends, pass_stops, pass_goes}
-use Rattle.inspection.proofs.LevelTurns.{node_stops, link_stops, level_short, level_whole, Onward, level_goes, level_starts}
-use Rattle.inspection.proofs.LevelTurns.{levels_stop, levels_go, levels_end}
-use Rattle.inspection.proofs.NodeTurns.{wrong, node_wrong, chain_starts, chain_wrong, chain_right}
-use Rattle.inspection.proofs.TopTurns.{reaching_all, reaching_less}
+use Rattle.inspection.specs.Faults.{chain_start}
+use Rattle.inspection.proofs.ChainTurns.{left}
 use Rattle.inspection.proofs.inspect.inspect_levels.Given as goal
 
 abbrev pub invariant-chain : goal.invariant-chain

@@ -1,13 +1,11 @@
 -- The loop keeps the counts over the x nodes passed.
-use Prim.Native.Nat.{◌-◌, ◌≤◌}
-use mathlib.Core.Path.{◌≡◌, refl, ◌∙◌}
+use Prim.Native.Nat.{◌-◌}
+use mathlib.Core.Path.{refl, ◌∙◌}
 use native.Mathlib.Omega.{arith}
-use borrow.Author.Rules.{rules}
 use lib.Dec.{eqb}
-use lib.ListN.{length, length-set}
-use Rattle.model.specs.Layout.{levels, top}
+use lib.ListN.{length-set}
+use Rattle.model.specs.Layout.{top}
 use Rattle.model.proofs.Counting.{count_most}
-use Rattle.inspection.specs.Tops.{TopCounts}
 use Rattle.inspection.proofs.TopTurns.{counts_none, counts_more, counts_same}
 use Rattle.inspection.proofs.tops.count_tops.Goals as goal
 

@@ -1,13 +1,9 @@
 -- The loop keeps the counts over the x nodes passed.
 use Prim.Native.Nat.{◌-◌, ◌≤◌}
-use mathlib.Core.Path.{◌≡◌, refl, ◌∙◌}
-use native.Mathlib.Omega.{arith}
-use lib.Dec.{eqb}
-use lib.ListN.{length, length-set}
-use Rattle.model.specs.Layout.{levels, top}
-use Rattle.model.proofs.Counting.{count_most}
+use mathlib.Core.Path.{◌≡◌}
+use lib.ListN.{length}
+use Rattle.model.specs.Layout.{levels}
 use Rattle.inspection.specs.Tops.{TopCounts}
-use Rattle.inspection.proofs.TopTurns.{counts_none, counts_more, counts_same}
 use Rattle.inspection.proofs.tops.count_tops.Given as goal
 
 abbrev pub invariant-loop-x : goal.invariant-loop-x

@@ -1,12 +1,8 @@
 -- As many tries are left as commands could be, and one more: the run of those still to make is the whole run.
 use Prim.Native.Nat.{suc}
-use mathlib.Core.Path.{◌≡◌, refl, sym, ◌∙◌}
-use native.Mathlib.Omega.{arith}
+use mathlib.Core.Path.{◌≡◌}
 use lib.ListN.{length}
-use borrow.Author.Tests.{not-true, not-false}
-use Rattle.interpreter.specs.Playing.{playing, Within, play_for, play_of}
-use Rattle.interpreter.proofs.Playing.{again, stops, last}
-use Rattle.interpreter.proofs.Tries.{same_page}
+use Rattle.interpreter.specs.Playing.{playing, Within, play_for}
 use Rattle.interpreter.proofs.play.play.Given as goal
 
 abbrev pub invariant-loop-left : goal.invariant-loop-left

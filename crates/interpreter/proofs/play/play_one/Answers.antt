@@ -2,9 +2,7 @@
 use mathlib.Core.List.{[]}
 use mathlib.Core.Path.{sym, ap, ◌∙◌}
 use native.Mathlib.Omega.{arith}
-use borrow.Author.Tests.{not-true, not-false}
-use Rattle.interpreter.proofs.Tries.{full, plays, needs_bytes, is_over_lem, stays_within, next_within}
-use borrow.Author.Rules.{rules}
+use Rattle.interpreter.proofs.Tries.{full, plays, needs_bytes, is_over_lem, next_within}
 use Rattle.interpreter.proofs.play.play_one.Goals as goal
 
 pub returns-then-not-has_room-clause-out_after : goal.returns-then-not-has_room-clause-out_after

@@ -1,9 +1,6 @@
 -- Words that are no state below the count are refused; any other are decoded.
 use mathlib.Core.Path.{sym, ◌∙◌}
-use borrow.Author.Tests.{not-true, not-false}
-use Rattle.lent.specs.Calls.{inspect_in}
 use Rattle.lent.proofs.Laws.{below_long}
-use borrow.Author.Rules.{rules}
 use Rattle.lent.proofs.query.inspect_in.Goals as goal
 
 pub state_in-s-requires : goal.state_in-s-requires

@@ -1,17 +1,11 @@
 -- The head's test, the permit on its words, and what a look that is let pass shows: Laws `look_by_lem`.
 use mathlib.Core.Bool.{true}
-use mathlib.Core.Path.{◌≡◌, sym, ap, ◌∙◌}
-use native.Mathlib.Omega.{arith}
-use lib.ListN.{length}
-use borrow.Author.Rules.{rules}
-use borrow.Author.Tests.{not-true, not-false}
+use mathlib.Core.Path.{sym, ap, ◌∙◌}
 use Rattle.model.specs.declared.types.Permit.TheVariants.{Granted, Denied}
-use Rattle.model.specs.Calls.{look_permit, look_by}
+use Rattle.model.specs.Calls.{look_by}
 use Rattle.refusals.proofs.Laws.{may_look}
 use Rattle.tables.specs.Room.{memory}
-use Rattle.process.specs.ProcessWords.{sizes}
-use Rattle.layout.specs.StateWords.{state_from, known_head}
-use Rattle.layout.proofs.Known.{head_long}
+use Rattle.layout.specs.StateWords.{state_from}
 use Rattle.lent.proofs.Laws.{header_known, look_headless, look_by_lem}
 use Rattle.lent.proofs.query.look_in.Goals as goal
 

@@ -1,16 +1,11 @@
 -- The test of the process asked, the permit on the head's words, and what the process's own tell: Laws `status_by_lem`.
-use Prim.Native.Nat.{◌<◌}
 use mathlib.Core.Bool.{true}
-use mathlib.Core.Path.{◌≡◌, sym, ap, ◌∙◌}
+use mathlib.Core.Path.{sym, ap, ◌∙◌}
 use native.Mathlib.Omega.{arith}
-use lib.ListN.{length}
-use borrow.Author.Rules.{rules}
-use borrow.Author.Tests.{not-true, not-false}
 use Rattle.model.specs.declared.types.Permit.TheVariants.{Granted, Denied}
-use Rattle.model.specs.Layout.{limits}
-use Rattle.model.specs.Calls.{standing, status_permit, status_by}
+use Rattle.model.specs.Calls.{standing, status_by}
 use Rattle.refusals.proofs.Laws.{may_tell}
-use Rattle.process.specs.ProcessWords.{sizes, process_from}
+use Rattle.process.specs.ProcessWords.{process_from}
 use Rattle.layout.specs.StateWords.{state_from, is_state_at, start_of}
 use Rattle.layout.proofs.Known.{part_is}
 use Rattle.layout.proofs.Laws.{process_at_lem}
@@ -50,6 +45,6 @@ returns-in-Granted c =
     let permit = c.status_permit-permit.ensures (state_from c.args.words.now) (header_at _ _ known) in
     let few = may_tell _ _ permit c.in-Granted.is in
     let found = c.process_in-p.ensures ∙ ap process_from (part_is a.words.now (start_of a.process))
-        ∙ sym (process_at_lem a.words.now a.process few) in
+    ∙ sym (process_at_lem a.words.now a.process few) in
     c.standing.ensures ∙ ap (λ p. standing p.call.kind p) found
     ∙ status_by_lem _ _ Granted known (sym permit ∙ c.in-Granted.is)

@@ -1,21 +1,19 @@
 -- The turn of the process in its part of the words, and what its move leaves: Laws `step_left`.
 use Prim.Native.Nat.{◌+◌, ◌≤◌, ◌<◌}
-use mathlib.Core.Bool.{true}
-use mathlib.Core.Path.{◌≡◌, refl, sym, ap, subst, ◌∙◌}
+use mathlib.Core.Path.{refl, sym, ap, subst, ◌∙◌}
 use native.Mathlib.Omega.{arith}
-use lib.ListN.{length, get_or}
+use lib.ListN.{get_or}
 use Rattle.model.specs.Layout.{limits, top_level}
 use Rattle.model.specs.Phases.{transition_of, refuses}
 use Rattle.model.specs.Calls.{store_of}
 use Rattle.tables.specs.Room.{memory}
 use Rattle.transition.proofs.Laws.{level_fits}
-use Rattle.refusals.proofs.Laws.{MayStep, may_step}
-use Rattle.process.specs.ProcessWords.{sizes, process_from}
-use Rattle.layout.specs.StateWords.{state_from, is_state_at, start_of}
-use Rattle.layout.proofs.Known.{part_is, part_long}
+use Rattle.refusals.proofs.Laws.{may_step}
+use Rattle.process.specs.ProcessWords.{process_from}
+use Rattle.layout.specs.StateWords.{state_from, start_of}
+use Rattle.layout.proofs.Known.{part_is}
 use Rattle.layout.proofs.Written.{part_facts, events_at}
 use Rattle.lent.proofs.Laws.{passed, step_left}
-use borrow.Author.Rules.{rules}
 use Rattle.lentstep.proofs.step.advance_in.Goals as goal
 
 pub bounds-words-4 : goal.bounds-words-4
@@ -103,7 +101,7 @@ leave-requires-clause-at_bound c =
     let passes = passed _ _ _ _ _ c.requires in
     let long = (part_facts a.words.now a.process passes.0).0 in
     λ h. subst (λ r. (process_from r).cursor.level ≤ top_level) (part_is a.words.now (start_of a.process))
-        (level_fits _ _ _ _ (sym (ap (λ v. refuses v.move) c.transition-t.ensures) ∙ h))
+    (level_fits _ _ _ _ (sym (ap (λ v. refuses v.move) c.transition-t.ensures) ∙ h))
 
 pub leave-requires-clause-tally_len : goal.leave-requires-clause-tally_len
 leave-requires-clause-tally_len c =

@@ -1,13 +1,9 @@
 -- The head, then the store that it shows, then the process.
 use mathlib.Core.Bool.{true}
-use mathlib.Core.Path.{◌≡◌, sym, ◌∙◌}
-use native.Mathlib.Omega.{arith}
-use borrow.Author.Tests.{not-true, not-false}
+use mathlib.Core.Path.{sym, ◌∙◌}
 use Rattle.model.specs.State.{lawful_store}
-use Rattle.layout.specs.StateWords.{state_from, known_head}
-use Rattle.layout.proofs.Known.{head_long}
+use Rattle.layout.specs.StateWords.{state_from}
 use Rattle.lent.proofs.Laws.{header_known, lawful_headless, lawful_unlawful, lawful_known}
-use borrow.Author.Rules.{rules}
 use Rattle.lentstep.proofs.step.lawful_in.Goals as goal
 
 pub returns-then-not-is_head : goal.returns-then-not-is_head

@@ -1,9 +1,6 @@
 -- Words that are no lawful state are refused, and nothing changes.
 use mathlib.Core.Path.{sym, ◌∙◌}
-use native.Mathlib.Omega.{arith}
-use borrow.Author.Tests.{not-true, not-false}
 use Rattle.lent.proofs.Laws.{unlawful, step_denied}
-use borrow.Author.Rules.{rules}
 use Rattle.lentstep.proofs.step.step_in.Goals as goal
 
 pub returns-then-not-lawful_in : goal.returns-then-not-lawful_in

@@ -1,15 +1,11 @@
 -- Refused as a step without words is: no lawful state has so many processes.
-use Prim.Native.Nat.{ℕ}
 use mathlib.Core.Bool.{true}
-use mathlib.Core.Path.{◌≡◌, sym, ◌∙◌}
+use mathlib.Core.Path.{sym, ◌∙◌}
 use native.Mathlib.Omega.{arith}
-use borrow.Author.Tests.{not-true, not-false}
-use Rattle.model.specs.Calls.{store_of, step_permit}
 use Rattle.refusals.proofs.Laws.{may_step}
 use Rattle.layout.specs.StateWords.{state_from, is_state_at}
 use Rattle.layout.proofs.Written.{part_facts, header_at}
 use Rattle.lent.proofs.Laws.{permit_unknown, permit_known, step_denied}
-use borrow.Author.Rules.{rules}
 use Rattle.lentstep.proofs.step.step_past.Goals as goal
 
 pub returns-then-not-is_state_at : goal.returns-then-not-is_state_at
@@ -28,10 +24,10 @@ returns-in-Denied c =
     let a = c.args in
     let known = sym c.is_state_at.ensures ∙ c.if-not-is_state_at.false in
     let permit = c.step_permit-permit.ensures (state_from a.words.now)
-        (record {
-          same = header_at a.words.now a.process known;
-          found = λ h. absurd (omega (arith, h, c.requires));
-        }) in
+    (record {
+      same = header_at a.words.now a.process known;
+      found = λ h. absurd (omega (arith, h, c.requires));
+    }) in
     step_denied _ _ _ _ _ _ (sym (permit_known _ _ _ _ _ known) ∙ sym permit ∙ c.in-Denied.is)
 
 pub returns-in-Granted : goal.returns-in-Granted
@@ -39,10 +35,10 @@ returns-in-Granted c =
     let a = c.args in
     let known = sym c.is_state_at.ensures ∙ c.if-not-is_state_at.false in
     let permit = c.step_permit-permit.ensures (state_from a.words.now)
-        (record {
-          same = header_at a.words.now a.process known;
-          found = λ h. absurd (omega (arith, h, c.requires));
-        }) in
+    (record {
+      same = header_at a.words.now a.process known;
+      found = λ h. absurd (omega (arith, h, c.requires));
+    }) in
     let f = (may_step _ _ permit c.in-Granted.is).start in
     let l = f.lawful.processes in
     absurd (omega (arith, f.process, c.requires))

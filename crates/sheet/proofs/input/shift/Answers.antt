@@ -1,10 +1,7 @@
 -- As many bytes as were moved stand at the front.
-use Prim.Native.Nat.{◌-◌, ◌≤◌}
-use mathlib.Core.Path.{◌≡◌, refl}
 use native.Mathlib.Omega.{arith}
-use lib.ListN.{length, length-set}
-use borrow.Author.Rules.{rules}
-use Rattle.sheet.proofs.Shifting.{moved, one_more}
+use lib.ListN.{length-set}
+use Rattle.sheet.proofs.Shifting.{one_more}
 use Rattle.sheet.proofs.input.shift.Goals as goal
 
 pub loop-n-preserved : goal.loop-n-preserved

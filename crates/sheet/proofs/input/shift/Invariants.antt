@@ -1,9 +1,8 @@
 -- As many bytes as were moved stand at the front.
 use Prim.Native.Nat.{◌-◌, ◌≤◌}
-use mathlib.Core.Path.{◌≡◌, refl}
-use native.Mathlib.Omega.{arith}
-use lib.ListN.{length, length-set}
-use Rattle.sheet.proofs.Shifting.{moved, one_more}
+use mathlib.Core.Path.{◌≡◌}
+use lib.ListN.{length}
+use Rattle.sheet.proofs.Shifting.{moved}
 use Rattle.sheet.proofs.input.shift.Given as goal
 
 abbrev pub invariant-loop-n : goal.invariant-loop-n

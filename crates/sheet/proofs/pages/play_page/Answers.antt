@@ -1,7 +1,6 @@
 -- What is played of the bytes held is the page.
 use native.Mathlib.Omega.{arith}
-use Rattle.sheet.proofs.Paging.{reach, page}
-use borrow.Author.Rules.{rules}
+use Rattle.sheet.proofs.Paging.{page}
 use Rattle.sheet.proofs.pages.play_page.Goals as goal
 
 pub returns-clause-out_after : goal.returns-clause-out_after
@@ -11,8 +10,8 @@ returns-clause-out_after c =
     let e = called.ensures in
     let w = e.within (record { read = omega arith; next = omega arith }) in
     let laws = page a.r a.bytes.now a.nodes.now a.versions.now a.tally.now a.out.now
-        called.new.nodes called.new.versions called.new.tally called.new.out
-        called.result e.out_after c.requires.in_buffer w c.requires.longest_command_in_bounds in
+    called.new.nodes called.new.versions called.new.tally called.new.out
+    called.result e.out_after c.requires.in_buffer w c.requires.longest_command_in_bounds in
     laws.0
 
 pub returns-clause-ready : goal.returns-clause-ready
@@ -22,6 +21,6 @@ returns-clause-ready c =
     let e = called.ensures in
     let w = e.within (record { read = omega arith; next = omega arith }) in
     let laws = page a.r a.bytes.now a.nodes.now a.versions.now a.tally.now a.out.now
-        called.new.nodes called.new.versions called.new.tally called.new.out
-        called.result e.out_after c.requires.in_buffer w c.requires.longest_command_in_bounds in
+    called.new.nodes called.new.versions called.new.tally called.new.out
+    called.result e.out_after c.requires.in_buffer w c.requires.longest_command_in_bounds in
     laws.1

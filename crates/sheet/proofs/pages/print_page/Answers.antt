@@ -1,9 +1,5 @@
 -- What is written is the page up to where its lines end, and whether it could be decides.
-use mathlib.Core.Path.{sym}
-use native.Mathlib.Omega.{arith}
-use lib.Seq.{length-take-le}
 use Rattle.sheet.proofs.Running.{settled_plays}
-use borrow.Author.Rules.{rules}
 use Rattle.sheet.proofs.pages.print_page.Goals as goal
 
 pub returns-clause-plays : goal.returns-clause-plays

@@ -1,11 +1,8 @@
 -- The rounds made so far are those of the definition, and the run is ready for the next.
-use mathlib.Core.Path.{◌≡◌, refl, sym, subst, ◌∙◌}
-use native.Mathlib.Omega.{arith}
+use mathlib.Core.Path.{◌≡◌}
 use lib.ListN.{length}
-use Rattle.sheet.specs.declared.types.Run.{Run}
 use Rattle.sheet.specs.Runs.{Ready, memory, first_memory}
-use Rattle.sheet.proofs.Standing.{first_ready}
-use Rattle.sheet.proofs.Running.{Ran, none_made, next_round, last_round, all_made}
+use Rattle.sheet.proofs.Running.{Ran}
 use Rattle.sheet.proofs.pages.run.Given as goal
 
 abbrev pub invariant-loop-rounds : goal.invariant-loop-rounds
