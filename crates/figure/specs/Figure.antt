@@ -1,5 +1,5 @@
 -- Figure 1 of document 001, "Pseudocode for the lazy JellyFish skip list", over the store's two tables: each procedure under
--- its own name and under a quotation of its lines. Nothing here knows of steps.
+-- its own name, in the spelling of this language, and under a quotation of its lines. Nothing here knows of steps.
 -- A pointer to a node is the node's number: node 0 is the left sentinel, and as a successor 0 is the right one, which has no
 -- record. A pointer to a value is the version's index, and NULL is 0.
 -- Added to the figure, each said where it enters: the fixed tables and their "full" answers; and, since these are functions of

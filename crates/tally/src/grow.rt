@@ -13,7 +13,7 @@ pub fn more(n: u32) -> u32
     if n < State::COUNT { n + 1 } else { n }
 }
 
-// Thin on purpose: only the walk of a struct behind `&mut` is by hand, the number is `more`'s.
+// Thin on purpose: a struct behind `&mut` is all that it adds, the number is `more`'s.
 #[tactic(auto, unfolding(crate::specs::Tally::grown_tally))]
 pub fn grow(t: &mut Tally, answer: Answer)
     ensures { t.exit.now ≡ grown_tally t.entry.now answer }
