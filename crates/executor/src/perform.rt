@@ -3,7 +3,7 @@ ghost use Rattle.std.specs.Prelude.{◌||◌, ◌≡◌};
 ghost use Rattle.buffers.specs.Session.{session, done, call_on};
 ghost use Rattle.executor.specs.Perform.{opens, perform_of};
 
-use buffers::calls::{get_on, inspect_on, look_on, open_on, put_on, step_on};
+use buffers::store_calls::{get_on, inspect_on, look_on, open_on, put_on, step_on};
 use buffers::types::Performed;
 use decoder::types::Command;
 use model::types::{Refusal, State};
