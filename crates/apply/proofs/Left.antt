@@ -1,4 +1,8 @@
 -- A part of the words, written and put back with the event, is what the move leaves.
+use Rattle.std.specs.Prelude.{Ok}
+use Rattle.model.specs.Types.{Stepping}
+use Rattle.model.specs.declared.types.Progress.{Progress}
+use Rattle.model.specs.declared.types.Item.{Item}
 use Prim.Native.Nat.{ℕ, ◌+◌, ◌-◌, ◌≤◌}
 use mathlib.Core.Bool.{true, false}
 use mathlib.Core.List.{List, ◌++◌, append_assoc}
@@ -10,15 +14,13 @@ use borrow.Rule.Slice.PartMut.{put_mid, put_same}
 use Rattle.model.specs.declared.types.Counts.{Counts}
 use Rattle.model.specs.declared.types.Cursor.{Cursor}
 use Rattle.model.specs.declared.types.Move.{Move}
-use Rattle.model.specs.declared.types.Move.TheVariants.{Refuse, Wait, Go}
-use Rattle.model.specs.declared.types.Refusal.TheVariants.{Damaged}
-use Rattle.model.specs.declared.types.Stepping.{Stepping}
+use Rattle.model.specs.declared.types.Move.TheVariants.{Wait, Go, Show}
 use Rattle.model.specs.Calls.{process_after, outcome_of, tally_after}
 use Rattle.model.specs.Phases.{refuses}
 use Rattle.process.specs.ProcessWords.{sizes, process_words, process_from, known_process}
 use Rattle.process.proofs.RoundTrip.{process_back}
 use Rattle.layout.specs.StateWords.{put_event}
-use Rattle.apply.proofs.Applied.{put_cursor, goes}
+use Rattle.apply.proofs.Applied.{put_cursor, goes, shows}
 use Rattle.layout.proofs.Known.{part_is, part_long}
 use Rattle.layout.proofs.Whole.{put_part}
 use Rattle.apply.specs.Leave.{leave_in}
@@ -35,10 +37,6 @@ put_sets w part at l h =
 module _ (w tally : List ℕ) (at tick : ℕ) (counts : Counts) where
   abbrev lent_part : List ℕ
   lent_part = take (at + sizes.process - at) (drop at w)
-
-  pub left_refused : record { outcome = Stepping.Refused Damaged; words = w; tally = tally } ≡ leave_in tick counts Refuse w at tally
-  unfolding outcome_of tally_after
-  left_refused = refl
 
   module _ (fits : at + sizes.process ≤ length w) where
     -- what the move leaves of the process, in its part, and the event
@@ -58,17 +56,25 @@ module _ (w tally : List ℕ) (at tick : ℕ) (counts : Counts) where
       own = ap known_process (part_is w at) ∙ known
 
       pub left_waits : (u : List ℕ) → u ≡ put_event w tick counts
-          → record { outcome = Stepping.Waited tick; words = u; tally = tally } ≡ leave_in tick counts Wait w at tally
+          → record { outcome = Ok (Progress.Waited tick); words = u; tally = tally } ≡ leave_in tick counts Wait w at tally
       unfolding outcome_of tally_after process_after
       left_waits u put =
           let long = part_long w at fits in
-          left_moved Wait lent_part u tally (Stepping.Waited tick) refl (sym (process_back lent_part long own)) long
+          left_moved Wait lent_part u tally (Ok (Progress.Waited tick)) refl (sym (process_back lent_part long own)) long
           (put ∙ ap (λ r. put_event r tick counts) (sym (put_same at (at + sizes.process - at) w))) refl refl
 
       pub left_goes : (v : Move) (c : Cursor) (part u : List ℕ) → v ≡ Go c → part ≡ put_cursor lent_part c
           → length part ≡ sizes.process → u ≡ put_event (put_mid at (at + sizes.process - at) w part) tick counts
-          → record { outcome = Stepping.Moved tick; words = u; tally = tally } ≡ leave_in tick counts v w at tally
+          → record { outcome = Ok (Progress.Moved tick); words = u; tally = tally } ≡ leave_in tick counts v w at tally
       unfolding outcome_of tally_after
       left_goes v c part u e is long put =
-          left_moved (Go c) part u tally (Stepping.Moved tick) refl (is ∙ goes lent_part (part_long w at fits) own tick c) long put refl refl
+          left_moved (Go c) part u tally (Ok (Progress.Moved tick)) refl (is ∙ goes lent_part (part_long w at fits) own tick c) long put refl refl
+          ∙ ap (λ v. leave_in tick counts v w at tally) (sym e)
+
+      pub left_shows : (v : Move) (c : Cursor) (x : Item) (part u : List ℕ) → v ≡ Show c x → part ≡ put_cursor lent_part c
+          → length part ≡ sizes.process → u ≡ put_event (put_mid at (at + sizes.process - at) w part) tick counts
+          → record { outcome = Ok (Progress.Shown tick x); words = u; tally = tally } ≡ leave_in tick counts v w at tally
+      unfolding outcome_of tally_after
+      left_shows v c x part u e is long put =
+          left_moved (Show c x) part u tally (Ok (Progress.Shown tick x)) refl (is ∙ shows lent_part (part_long w at fits) own tick c x) long put refl refl
           ∙ ap (λ v. leave_in tick counts v w at tally) (sym e)

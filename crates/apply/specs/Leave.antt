@@ -1,10 +1,10 @@
 -- What a move leaves of the words and of the tally, and what the step answers.
+use Rattle.model.specs.Types.{Stepping}
 use Rattle.std.specs.Prelude.{ℕ, List, take, drop}
 use Rattle.std.proofs.lemmas.List.Edits.{sets}
 use Rattle.model.specs.declared.types.Counts.{Counts}
 use Rattle.model.specs.declared.types.Move.{Move}
 use Rattle.model.specs.declared.types.Process.{Process}
-use Rattle.model.specs.declared.types.Stepping.{Stepping}
 use Rattle.std.specs.Prelude.{if◌then◌else◌}
 use Rattle.model.specs.Calls.{process_after, outcome_of, tally_after}
 use Rattle.model.specs.Phases.{refuses}

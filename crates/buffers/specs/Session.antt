@@ -1,8 +1,7 @@
 -- Document 01, "Sheet program": what a command does to the store, which stands in two buffers that its tables are lent from.
+use Rattle.model.specs.Types.{Opening, StartResult, Ok, Err}
 use Rattle.std.specs.Prelude.{ℕ, ◌+◌, ◌*◌, ◌≤◌, ◌≡◌, List, ◌++◌, length, take, drop, replicate}
-use Rattle.model.specs.declared.types.Opening.{Opening}
 use Rattle.model.specs.declared.types.State.{State}
-use Rattle.model.specs.declared.types.StartResult.{StartResult}
 use Rattle.model.specs.Layout.{node_words, version_words, limits}
 use Rattle.model.specs.Calls.{Opened, open_of, start_of, Store, Stepped, step_of, look_of}
 use Rattle.model.specs.Requests.{Operation, put, get}
@@ -76,8 +75,8 @@ buffers = record {
 
 -- an opened store counts "From zero"; "A refused call [..] changes no word of the tables, the tally or the state."
 abbrev pub opened_tally : Opening → (tally : List ℕ) → List ℕ
-opened_tally Opening.Opened tally = replicate (length tally) 0
-opened_tally (Opening.Refused r) tally = tally
+opened_tally (Ok _) tally = replicate (length tally) 0
+opened_tally (Err r) tally = tally
 
 abbrev pub opened_on : Session → (keys versions processes limit : ℕ) → Opened → Done
 opened_on w k v p limit o = record {

@@ -5,7 +5,7 @@ ghost use Rattle.buffers.specs.Session.{buffers};
 use model::types::State;
 use printer::types::Line;
 
-// The line of a command and the state after it, beside the buffers.
+// The line of a command and the state after it, beside the buffers. No `Answered`: a line is no outcome, and definitions name it (`done`).
 #[derive(Clone, Copy)]
 pub struct Performed {
     pub line: Line,
@@ -28,7 +28,7 @@ impl Buffers {
 
     pub const TALLY: usize = State::TALLY as usize;
 
-    // Never called: it ties the constants to the definitions.
+    // Never called: no clause stands at a constant, so this ties them to the definitions.
     pub fn sizes() -> Self
         ensures { result ≡ buffers }
     {

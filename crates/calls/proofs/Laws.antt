@@ -1,14 +1,13 @@
 -- A step is its advance put into the state.
+use Rattle.model.specs.Types.{Stepping, Ok, Err}
 use Prim.Native.Nat.{ℕ, ◌+◌}
 use mathlib.Core.Bool.{true, false}
 use mathlib.Core.List.{List}
 use mathlib.Core.Path.{◌≡◌, sym, ap, ◌∙◌}
 use Rattle.model.specs.declared.types.Counts.{Counts}
 use Rattle.model.specs.declared.types.Move.{Move}
-use Rattle.model.specs.declared.types.Permit.TheVariants.{Granted}
 use Rattle.model.specs.declared.types.Process.{Process}
 use Rattle.model.specs.declared.types.Refusal.TheVariants.{Damaged}
-use Rattle.model.specs.declared.types.Stepping.{Stepping}
 use Rattle.model.specs.Layout.{Memory}
 use Rattle.model.specs.State.{process_at, memory_of, with_event}
 use Rattle.model.specs.Phases.{Moved, moved, transition_of, refuses}
@@ -23,7 +22,7 @@ use Rattle.calls.specs.Advance.{Advance, advance_by, advance_of}
 pub refused_advance : (tick : ℕ) (p : Process) (tally : List ℕ) (v : Move) (m : Memory) → refuses v ≡ true
     → record {
       refused = true;
-      outcome = Stepping.Refused Damaged;
+      outcome = Err Damaged;
       process = p;
       memory = m;
       tally = tally;
@@ -62,12 +61,12 @@ advance_in w i j counts =
     advance_of (i + 1) (w.state.events + 1) (process_at w.state j) (memory w.nodes w.versions counts) w.tally
 
 stays_by : (w : Store) (i : ℕ) (v : Moved) → refuses v.move ≡ true → v.memory ≡ memory_of w.state w.nodes w.versions
-    → stays w (advance_by (w.state.events + 1) (process_at w.state i) w.tally v) ≡ step_by Granted w i v
+    → stays w (advance_by (w.state.events + 1) (process_at w.state i) w.tally v) ≡ step_by (Ok tt) w i v
 unfolding advance_by step_by outcome_of tally_after
 stays_by w i v e k = simp (refused_is v.move e, k)
 
 moves_by : (w : Store) (i : ℕ) (v : Moved) → refuses v.move ≡ false
-    → moves w i (advance_by (w.state.events + 1) (process_at w.state i) w.tally v) ≡ step_by Granted w i v
+    → moves w i (advance_by (w.state.events + 1) (process_at w.state i) w.tally v) ≡ step_by (Ok tt) w i v
 unfolding advance_by step_by
 moves_by w i v e = simp e
 
@@ -78,7 +77,7 @@ module _
     (counts : Counts)
     (slot : j ≡ i)
     (header : counts ≡ w.state.counts)
-    (granted : step_permit w i ≡ Granted)
+    (granted : step_permit w i ≡ (Ok tt))
     (a : Advance)
     (is : a ≡ advance_in w i j counts)
   where

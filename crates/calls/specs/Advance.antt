@@ -1,7 +1,7 @@
 -- One step of one process beside the state: what its move leaves.
+use Rattle.model.specs.Types.{Stepping}
 use Rattle.std.specs.Prelude.{ℕ, Bool, List}
 use Rattle.model.specs.declared.types.Process.{Process}
-use Rattle.model.specs.declared.types.Stepping.{Stepping}
 use Rattle.model.specs.Layout.{Memory}
 use Rattle.model.specs.Phases.{Moved, transition_of, refuses}
 use Rattle.model.specs.Calls.{process_after, outcome_of, tally_after}

@@ -3,10 +3,11 @@ ghost use Rattle.std.specs.Prelude.{◌≡◌, ◌≤◌, length, set};
 ghost use Rattle.model.specs.Layout.{limits, top_level};
 ghost use Rattle.model.specs.Calls.{process_after, outcome_of, tally_after};
 
-use model::types::{Call, Effect, Finish, Move, Process, Refusal, State, Stepping};
+use model::types::{Call, Effect, Finish, Move, Process, Progress, Refusal, State, Stepping};
 use tally::count::count;
 
-// The process with its predecessor remembered at its level.
+// The process with its predecessor remembered at its level. A clause says that the level is one: a process may hold any number, and
+// only the transition tests it.
 fn remember(p: Process) -> [u32; State::LEVELS]
     requires { p.cursor.level ≤ top_level }
     ensures { result ≡ set p.preds p.cursor.level p.cursor.pred }
@@ -22,43 +23,20 @@ pub fn process_after(tick: u32, p: Process, mv: Move) -> Process
     requires { p.cursor.level ≤ top_level }
     ensures { result ≡ process_after tick p mv }
 {
-    let call = p.call;
-    let effect = p.effect;
-    let preds = p.preds;
     match mv {
-        Move::Refuse => p,
-        Move::Wait => p,
-        Move::Go(cursor) => Process {
-            call,
+        Move::Refuse | Move::Wait => p,
+        Move::Go(cursor) | Move::Show(cursor, _) => Process { cursor, ..p },
+        Move::Note(cursor) => Process {
             cursor,
-            effect,
-            preds,
+            preds: remember(p),
+            ..p
         },
-        Move::Note(cursor) => {
-            let noted = remember(p);
-            Process {
-                call,
-                cursor,
-                effect,
-                preds: noted,
-            }
-        }
-        Move::Commit(cursor, answer) => {
-            let committed = Effect { answer, tick };
-            Process {
-                call,
-                cursor,
-                effect: committed,
-                preds,
-            }
-        }
-        Move::Show(cursor, _) => Process {
-            call,
+        Move::Commit(cursor, answer) => Process {
             cursor,
-            effect,
-            preds,
+            effect: Effect { answer, tick },
+            ..p
         },
-        Move::End(_, _, _) => Process::idle(),
+        Move::End(..) => Process::idle(),
     }
 }
 
@@ -66,23 +44,20 @@ pub fn process_after(tick: u32, p: Process, mv: Move) -> Process
 pub fn outcome_of(tick: u32, call: Call, mv: Move) -> Stepping
     ensures { result ≡ outcome_of tick call mv }
 {
-    let kind = call.kind;
     match mv {
-        Move::Refuse => Stepping::Refused(Refusal::Damaged),
-        Move::Wait => Stepping::Waited(tick),
-        Move::Go(_) => Stepping::Moved(tick),
-        Move::Note(_) => Stepping::Moved(tick),
-        Move::Commit(_, _) => Stepping::Moved(tick),
-        Move::Show(_, item) => Stepping::Shown(tick, item),
-        Move::End(answer, version, effect) => Stepping::Finished(Finish {
-            kind,
+        Move::Refuse => Err(Refusal::Damaged),
+        Move::Wait => Ok(Progress::Waited(tick)),
+        Move::Go(_) | Move::Note(_) | Move::Commit(..) => Ok(Progress::Moved(tick)),
+        Move::Show(_, item) => Ok(Progress::Shown(tick, item)),
+        Move::End(answer, version, effect) => Ok(Progress::Finished(Finish {
+            kind: call.kind,
             answer,
             value: version.value,
             timestamp: version.timestamp,
             start: call.start,
             effect,
             finish: tick,
-        }),
+        })),
     }
 }
 
@@ -92,13 +67,7 @@ pub fn count_end(tally: &mut [u32], mv: Move)
     requires { length tally.old ≡ limits.tally }
     ensures { tally.new ≡ tally_after tally.old mv }
 {
-    match mv {
-        Move::Refuse => {}
-        Move::Wait => {}
-        Move::Go(_) => {}
-        Move::Note(_) => {}
-        Move::Commit(_, _) => {}
-        Move::Show(_, _) => {}
-        Move::End(answer, _, _) => count(tally, answer),
+    if let Move::End(answer, _, _) = mv {
+        count(tally, answer);
     }
 }

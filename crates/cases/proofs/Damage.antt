@@ -5,8 +5,6 @@ use mathlib.Core.Bool.{Bool, true, false}
 use mathlib.Core.Path.{◌≡◌, refl}
 use mathlib.Core.List.{List, [], ◌∷◌, ◌++◌, map}
 use lib.ListN.{replicate, set}
-use Rattle.model.specs.declared.types.Inspecting.{Inspecting}
-use Rattle.model.specs.declared.types.Status.{Status}
 use Rattle.model.specs.declared.types.Process.{Process}
 use Rattle.model.specs.declared.types.Phase.{Phase}
 use Rattle.model.specs.declared.types.Phase.TheVariants.{Walk, Read, Seek, Lock, Check, Update, Make, Link, Release, Follow}
@@ -19,6 +17,7 @@ use Rattle.model.specs.Calls.{Store}
 use Rattle.model.specs.History.{step, look}
 use Rattle.model.proofs.Bench.{start_get, Question, call, inspect, status, Said, inspected, stands, Case, said}
 use Rattle.model.proofs.Bench.{fit, put, on, done, shown, shows, no_start, no_step, no_look}
+use Rattle.model.specs.Types.{Err, no_fault, fault_at, idle_status}
 
 -- ---- alterations
 
@@ -145,16 +144,16 @@ sweeps : (Store → Store) → Process → Case
 sweeps f p = stepping f p (done Scan Swept 0 0 20 0 25)
 
 corrupt : (Store → Store) → Case
-corrupt f = altered f (status 0) (stands (Status.Refused Corrupt))
+corrupt f = altered f (status 0) (stands (Err Corrupt))
 
 lawful : (Store → Store) → Case
-lawful f = altered f (status 0) (stands Status.Idle)
+lawful f = altered f (status 0) (stands idle_status)
 
 fault : (Store → Store) → (level node : ℕ) → Case
-fault f l x = altered f inspect (inspected (Inspecting.Fault l x))
+fault f l x = altered f inspect (inspected (fault_at l x))
 
 sound : (Store → Store) → Case
-sound f = altered f inspect (inspected Inspecting.Sound)
+sound f = altered f inspect (inspected no_fault)
 
 pub cases : List Case
 cases =
@@ -185,7 +184,7 @@ cases =
     altered (state true 1 400 24 32 12 1 2) (call (start_get 0 7)) (no_start Corrupt) ∷
     altered (state true 1 400 24 64 12 1 2) (call (step 0)) (no_step Corrupt) ∷
     altered (state true 1 400 24 48 9 1 2) (call (look 7 0)) (no_look Corrupt) ∷
-    altered (state true 1 400 24 48 15 1 2) inspect (inspected (Inspecting.Refused Corrupt)) ∷
+    altered (state true 1 400 24 48 15 1 2) inspect (inspected (Err Corrupt)) ∷
     -- "11 at any step a level above 5, p not in use"
     moves same (a_put Walk 5 0 0 0 None 0) ∷
     breaks same (a_put Walk 6 0 0 0 None 0) ∷
@@ -288,7 +287,7 @@ cases =
       actions = put 11 3 5 100 ++ put 12 7 6 101;
       alter = node 1 3 1;
       question = inspect;
-      expected = inspected (Inspecting.Fault 0 1);
+      expected = inspected (fault_at 0 1);
     } ∷
     -- a tray whose high half was altered is another tray: 7 + 9 · 2³²
     sound (node 1 3 9) ∷
@@ -304,7 +303,7 @@ cases =
       actions = put 11 3 5 100 ++ put 12 7 6 101;
       alter = node 1 4 0;
       question = inspect;
-      expected = inspected (Inspecting.Fault 0 1);
+      expected = inspected (fault_at 0 1);
     } ∷
     -- the head's top, a top above 5 that is linked, and what is not in use make no fault
     sound (node 0 2 0) ∷ sound (node 2 2 5) ∷ sound (version 0 2 9) ∷

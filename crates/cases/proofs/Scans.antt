@@ -3,9 +3,6 @@ use Prim.Native.Nat.{ℕ}
 use mathlib.Core.List.{List, [], ◌∷◌, ◌++◌, map}
 use mathlib.Core.Path.{◌≡◌, refl}
 use lib.ListN.{replicate}
-use Rattle.model.specs.declared.types.Starting.{Starting}
-use Rattle.model.specs.declared.types.Inspecting.{Inspecting}
-use Rattle.model.specs.declared.types.Status.{Status}
 use Rattle.model.specs.declared.types.Phase.{Phase}
 use Rattle.model.specs.declared.types.Phase.TheVariants.{Walk, Follow}
 use Rattle.model.specs.declared.types.Answer.TheVariants.{Swept, None}
@@ -16,6 +13,7 @@ use Rattle.model.specs.History.{Action, step}
 use Rattle.model.proofs.Bench.{start_scan, Case, call, status, inspect, tally, process, observer, ledger}
 use Rattle.model.proofs.Bench.{Said, started, stands, inspected, words, keeps, lists, said, fit, case, alike_in_half, steps, put, get}
 use Rattle.model.proofs.Bench.{done, on, shown, no_start, one, two, three, entry, scanned}
+use Rattle.model.specs.Types.{Ok, Err, no_fault, running_status}
 
 -- process 1 starts a scan and makes n steps
 scan : (n first last : ℕ) → List Action
@@ -47,8 +45,8 @@ cases =
     case (fit 2 3 2 1) (get 0 7) (call (start_scan 0 8 9)) (no_start Busy) ∷
     case (fit 2 3 2 1) (get 0 7) (call (start_scan 1 9 8)) (no_start BadRange) ∷
     case (fit 2 3 2 1) (get 0 7) (call (start_scan 1 8 9)) (no_start Spent) ∷
-    case one [] (call (start_scan 0 1 18_446_744_073_709_551_614)) (started (Starting.Started 1)) ∷
-    case one [] (call (start_scan 0 9 9)) (started (Starting.Started 1)) ∷
+    case one [] (call (start_scan 0 1 18_446_744_073_709_551_614)) (started (Ok 1)) ∷
+    case one [] (call (start_scan 0 9 9)) (started (Ok 1)) ∷
     -- "It walks as a get does to the first, but the walk's last step leaves p before the first and shows nothing.": an empty store,
     -- then a first that is held, behind another tray
     case two (scan 0 8 9) (process 1) (scanning 8 9 1 Walk 5 0 (replicate 6 0)) ∷
@@ -88,13 +86,13 @@ cases =
     case (fit 4 4 2 400) (alike_in_half ++ scan 9 6 4_294_967_300) (call (step 1)) (done Scan Swept 0 0 51 0 61) ∷
     case one [] (call (start_scan 0 4_294_967_296 5)) (no_start BadRange) ∷
     -- "The sweep's effect tick is 0, no tally counts it": standing, the tally, the observer and the ledger of demand 3; "7 busy"
-    case two (pair ++ scan 3 10 30) (status 1) (stands (Status.Running Scan 26 0)) ∷
-    case two (pair ++ scan 7 10 30) (status 1) (stands (Status.Running Scan 26 0)) ∷
+    case two (pair ++ scan 3 10 30) (status 1) (stands (running_status Scan 26 0)) ∷
+    case two (pair ++ scan 7 10 30) (status 1) (stands (running_status Scan 26 0)) ∷
     case two (scan 7 8 9) tally (words (replicate 7 0)) ∷
     case two (pair ++ scan 9 10 30) observer (words (35 ∷ 3 ∷ 3 ∷ 0 ∷ 0 ∷ [])) ∷
     case two (pair ++ scan 9 10 30) ledger (lists (entry 10 5 100 ∷ entry 30 6 100 ∷ [])) ∷
-    case two (pair ++ scan 7 10 30) inspect (inspected (Inspecting.Refused Busy)) ∷
-    case two (pair ++ scan 9 10 30) inspect (inspected Inspecting.Sound) ∷
+    case two (pair ++ scan 7 10 30) inspect (inspected (Err Busy)) ∷
+    case two (pair ++ scan 9 10 30) inspect (inspected no_fault) ∷
     []
 
 -- every case says what is expected of it

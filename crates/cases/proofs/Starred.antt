@@ -2,10 +2,6 @@
 use mathlib.Core.List.{List, [], ◌∷◌, ◌++◌, map}
 use mathlib.Core.Path.{◌≡◌, refl}
 use lib.ListN.{replicate}
-use Rattle.model.specs.declared.types.Opening.{Opening}
-use Rattle.model.specs.declared.types.Starting.{Starting}
-use Rattle.model.specs.declared.types.Inspecting.{Inspecting}
-use Rattle.model.specs.declared.types.Status.{Status}
 use Rattle.model.specs.declared.types.Phase.TheVariants.{Walk, Read, Seek, Lock, Make}
 use Rattle.model.specs.declared.types.Answer.TheVariants.{TooOld, VersionsFull, Added, KeysFull, New, Found, None}
 use Rattle.model.specs.declared.types.Kind.TheVariants.{Put, Get}
@@ -17,6 +13,7 @@ use Rattle.model.proofs.Bench.{started, stands, inspected, words, keeps, lists, 
 use Rattle.model.proofs.Bench.{with_tally, case, alike_in_half, steps, put, get, times, side_by_side, done, on, wait, shows}
 use Rattle.model.proofs.Bench.{no_start, no_step, no_look, one, two, draw_gives, draw_makes, opens, thrice}
 use Rattle.model.proofs.Bench.{tall, stairs, climbing, overtaken, kept, both, entry, mixed}
+use Rattle.model.specs.Types.{Ok, Err, no_fault, idle_status, running_status}
 
 -- ---- the cases that document 01 wants proved
 
@@ -29,9 +26,9 @@ starred =
     case one (get 4 7) (call (step 0)) (on 6) ∷
     case one (get 5 7) (call (step 0)) (done Get None 0 0 1 7 7) ∷
     -- "Put, draw 1: 11 steps, effect in the 10th."
-    case one (put 9 7 5 100) (status 0) (stands (Status.Running Put 1 0)) ∷
+    case one (put 9 7 5 100) (status 0) (stands (running_status Put 1 0)) ∷
     case one (put 9 7 5 100) (call (step 0)) (on 11) ∷
-    case one (put 10 7 5 100) (status 0) (stands (Status.Running Put 1 11)) ∷
+    case one (put 10 7 5 100) (status 0) (stands (running_status Put 1 11)) ∷
     case one (put 10 7 5 100) (call (step 0)) (done Put New 5 100 1 11 12) ∷
     -- "Draw 8: 26 steps."
     case one (start_put 0 7 5 100 8 ∷ steps 24 0) (call (step 0)) (on 26) ∷
@@ -55,20 +52,20 @@ starred =
 pub others : List Case
 others =
     -- "The fitter, at open, in order: 1 node table length; 2 reading table length; 3 stations; 4 event limit."
-    opens 0 0 0 0 (Opening.Refused NodeLength) ∷
-    opens 16 6 1 1 (Opening.Refused NodeLength) ∷
-    opens 40 6 1 1 (Opening.Refused NodeLength) ∷
-    opens 16_400 6 1 1 (Opening.Refused NodeLength) ∷
-    opens 32 0 0 0 (Opening.Refused VersionLength) ∷
-    opens 32 3 1 1 (Opening.Refused VersionLength) ∷
-    opens 32 8 1 1 (Opening.Refused VersionLength) ∷
-    opens 32 12_291 1 1 (Opening.Refused VersionLength) ∷
-    opens 32 6 0 0 (Opening.Refused ProcessCount) ∷
-    opens 32 6 9 1 (Opening.Refused ProcessCount) ∷
-    opens 32 6 1 0 (Opening.Refused EventLimit) ∷
-    opens 32 6 1 1_000_000_001 (Opening.Refused EventLimit) ∷
-    opens 32 6 1 1 Opening.Opened ∷
-    opens 16_384 12_288 8 1_000_000_000 Opening.Opened ∷
+    opens 0 0 0 0 (Err NodeLength) ∷
+    opens 16 6 1 1 (Err NodeLength) ∷
+    opens 40 6 1 1 (Err NodeLength) ∷
+    opens 16_400 6 1 1 (Err NodeLength) ∷
+    opens 32 0 0 0 (Err VersionLength) ∷
+    opens 32 3 1 1 (Err VersionLength) ∷
+    opens 32 8 1 1 (Err VersionLength) ∷
+    opens 32 12_291 1 1 (Err VersionLength) ∷
+    opens 32 6 0 0 (Err ProcessCount) ∷
+    opens 32 6 9 1 (Err ProcessCount) ∷
+    opens 32 6 1 0 (Err EventLimit) ∷
+    opens 32 6 1 1_000_000_001 (Err EventLimit) ∷
+    opens 32 6 1 1 (Ok tt) ∷
+    opens 16_384 12_288 8 1_000_000_000 (Ok tt) ∷
     -- "Opening zeroes both tables and sets word 2 of node 0 to 5."; a refusal "changes no lent word"
     case (lent 32 6 1 1) [] tables (words (0 ∷ 0 ∷ 5 ∷ replicate 35 0)) ∷
     case (lent 32 6 1 0) [] tables (words (replicate 38 77)) ∷
@@ -77,8 +74,8 @@ others =
     case (fit 0 0 0 0) [] (call (start_put 0 0 0 0 0)) (no_start Corrupt) ∷
     case (fit 0 0 0 0) [] (call (step 0)) (no_step Corrupt) ∷
     case (fit 0 0 0 0) [] (call (look 0 0)) (no_look Corrupt) ∷
-    case (fit 0 0 0 0) [] inspect (inspected (Inspecting.Refused Corrupt)) ∷
-    case (fit 0 0 0 0) [] (status 0) (stands (Status.Refused Corrupt)) ∷
+    case (fit 0 0 0 0) [] inspect (inspected (Err Corrupt)) ∷
+    case (fit 0 0 0 0) [] (status 0) (stands (Err Corrupt)) ∷
     -- 10 "at a step a tally of more or fewer words than there are counts"
     case (with_tally one (replicate 6 0)) (get 0 7) (call (step 0)) (no_step Corrupt) ∷
     case (with_tally one (replicate 8 0)) (get 0 7) (call (step 0)) (no_step Corrupt) ∷
@@ -89,19 +86,19 @@ others =
     case (fit 2 3 2 1) (get 0 7) (call (start_get 1 7)) (no_start Spent) ∷
     -- "Tray 1 and 4,294,967,294 start."; P3: "Trays run from 1 to 18,446,744,073,709,551,614, and refusal 6 reads that range."
     case one [] (call (start_put 0 0 5 100 1)) (no_start BadKey) ∷
-    case one [] (call (start_put 0 1 5 100 1)) (started (Starting.Started 1)) ∷
-    case one [] (call (start_put 0 4_294_967_294 5 100 1)) (started (Starting.Started 1)) ∷
-    case one [] (call (start_put 0 4_294_967_295 5 100 1)) (started (Starting.Started 1)) ∷
-    case one [] (call (start_put 0 18_446_744_073_709_551_614 5 100 1)) (started (Starting.Started 1)) ∷
+    case one [] (call (start_put 0 1 5 100 1)) (started (Ok 1)) ∷
+    case one [] (call (start_put 0 4_294_967_294 5 100 1)) (started (Ok 1)) ∷
+    case one [] (call (start_put 0 4_294_967_295 5 100 1)) (started (Ok 1)) ∷
+    case one [] (call (start_put 0 18_446_744_073_709_551_614 5 100 1)) (started (Ok 1)) ∷
     case one [] (call (start_put 0 18_446_744_073_709_551_615 5 100 1)) (no_start BadKey) ∷
-    case one [] (call (start_get 0 1)) (started (Starting.Started 1)) ∷
-    case one [] (call (start_get 0 4_294_967_295)) (started (Starting.Started 1)) ∷
-    case one [] (call (start_get 0 18_446_744_073_709_551_614)) (started (Starting.Started 1)) ∷
+    case one [] (call (start_get 0 1)) (started (Ok 1)) ∷
+    case one [] (call (start_get 0 4_294_967_295)) (started (Ok 1)) ∷
+    case one [] (call (start_get 0 18_446_744_073_709_551_614)) (started (Ok 1)) ∷
     case one [] (call (start_get 0 18_446_744_073_709_551_615)) (no_start BadKey) ∷
     -- "Step: 10, 5, 8, 9, 11."; "Limit 1: the start is tick 1, the step is refused 9."
     case one [] (call (step 1)) (no_step NoProcess) ∷
     case (fit 2 3 2 1) (get 0 7) (call (step 1)) (no_step NoCall) ∷
-    case (fit 2 3 1 1) [] (call (start_get 0 7)) (started (Starting.Started 1)) ∷
+    case (fit 2 3 1 1) [] (call (start_get 0 7)) (started (Ok 1)) ∷
     case (fit 2 3 1 1) (get 0 7) (call (step 0)) (no_step Spent) ∷
     -- the words of both tables: one node of top 1 and its version, idle; the lock of process 1, "station number plus 1";
     -- a second version, whose previous place is 1; and three nodes, twice, linked at several levels
@@ -125,14 +122,14 @@ others =
     case (fit 4 4 1 400) alike_in_half (call (look 5 0)) (shows 8 100) ∷
     case (fit 4 4 1 400) alike_in_half (call (look 4_294_967_301 0)) (shows 5 100) ∷
     case (fit 4 4 1 400) alike_in_half (call (look 8_589_934_597 0)) (no_look NoKey) ∷
-    case (fit 4 4 1 400) alike_in_half inspect (inspected Inspecting.Sound) ∷
+    case (fit 4 4 1 400) alike_in_half inspect (inspected no_fault) ∷
     -- a long tray in a call, in the ledger, put again, and linked on every level
     case one (put 0 4_294_967_301 5 100) (process 0) (kept Put 4_294_967_301 5 100 0 1 Walk 5 0 0 None 0 (replicate 6 0)) ∷
     case one (put 11 4_294_967_301 5 100) ledger (lists (entry 4_294_967_301 5 100 ∷ [])) ∷
     case one (put 11 4_294_967_301 5 100 ++ put 10 4_294_967_301 6 100) (call (step 0)) (done Put Added 6 100 13 23 24) ∷
     case one (put 11 4_294_967_301 5 100 ++ put 10 4_294_967_301 6 99) (call (step 0)) (done Put TooOld 6 99 13 23 24) ∷
     case one (start_put 0 4_294_967_301 5 100 0 ∷ steps 35 0) (call (step 0)) (done Put New 5 100 1 11 37) ∷
-    case one (start_put 0 4_294_967_301 5 100 0 ∷ steps 36 0 ++ put 11 5 6 100) inspect (inspected Inspecting.Sound) ∷
+    case one (start_put 0 4_294_967_301 5 100 0 ∷ steps 36 0 ++ put 11 5 6 100) inspect (inspected no_fault) ∷
     case (fit 3 3 1 400) (tall ++ steps 1 0) tables (words (
     0 ∷ 0 ∷ 5 ∷ 0 ∷ 1 ∷ 1 ∷ 1 ∷ 1 ∷ 1 ∷ 1 ∷ replicate 6 0
     ++ (3 ∷ 1 ∷ 5 ∷ 0 ∷ 3 ∷ 3 ∷ 3 ∷ 3 ∷ 2 ∷ 2 ∷ replicate 6 0)
@@ -184,17 +181,17 @@ others =
     case two (start_put 0 7 5 100 1 ∷ start_put 1 9 6 101 1 ∷ steps 6 0 ++ steps 6 1 ++ steps 5 0 ++ steps 5 1)
     (call (step 1)) (done Put New 6 101 2 24 25) ∷
     case two (overtaken 5 ++ steps 5 1) (call (step 1)) (done Put New 6 101 2 18 35) ∷
-    case two (overtaken 5 ++ steps 6 1) inspect (inspected Inspecting.Sound) ∷
+    case two (overtaken 5 ++ steps 6 1) inspect (inspected no_fault) ∷
     -- "Check: before: free the lock, p moves along, go to seek.", above level 0
     case two (overtaken 6 ++ steps 6 1) (call (step 1)) (done Put New 6 101 2 18 37) ∷
-    case two (overtaken 6 ++ steps 7 1) inspect (inspected Inspecting.Sound) ∷
+    case two (overtaken 6 ++ steps 7 1) inspect (inspected no_fault) ∷
     -- "Two puts of one new tray: one new, one added or too old": the second finds the tray under the lock
     case two (side_by_side 7 5 100 7 6 99 ++ steps 3 0) (call (step 0)) (done Put New 5 100 1 19 20) ∷
     case two (side_by_side 7 5 100 7 6 99 ++ steps 4 0 ++ steps 3 1) (call (step 1)) (done Put TooOld 6 99 2 23 24) ∷
     case two (side_by_side 7 5 100 7 6 100 ++ steps 4 0 ++ steps 3 1) (call (step 1)) (done Put Added 6 100 2 23 24) ∷
     -- slip "not reading the link again under the lock (loses a tray)": tray 9 finds 7 in its way, and goes behind it
     case two (side_by_side 7 5 100 9 6 101 ++ steps 4 0 ++ steps 6 1) (call (step 1)) (done Put New 6 101 2 26 27) ∷
-    case two both inspect (inspected Inspecting.Sound) ∷
+    case two both inspect (inspected no_fault) ∷
     case two both (call (look 7 0)) (shows 5 100) ∷
     case two both (call (look 9 0)) (shows 6 101) ∷
     -- slip "locking the tray's own node for an update, when its predecessor's lock is the right one"
@@ -215,15 +212,15 @@ others =
     case one thrice (call (look 7 2)) (shows 5 100) ∷
     case one thrice (call (look 7 3)) (no_look NoVersion) ∷
     -- "A station's standing is idle, or kind, start tick and effect tick (0 before effect)."
-    case one [] (status 0) (stands Status.Idle) ∷
-    case one (put 11 7 5 100) (status 0) (stands Status.Idle) ∷
-    case one (get 5 7) (status 0) (stands (Status.Running Get 1 0)) ∷
-    case one [] (status 1) (stands (Status.Refused NoProcess)) ∷
+    case one [] (status 0) (stands idle_status) ∷
+    case one (put 11 7 5 100) (status 0) (stands idle_status) ∷
+    case one (get 5 7) (status 0) (stands (running_status Get 1 0)) ∷
+    case one [] (status 1) (stands (Err NoProcess)) ∷
     -- "Inspection: 10, 7."
-    case one [] inspect (inspected Inspecting.Sound) ∷
+    case one [] inspect (inspected no_fault) ∷
     case one (put 11 7 5 100 ++ (start_put 0 3 6 100 8 ∷ steps 26 0) ++ put 12 7 6 100) inspect
-    (inspected Inspecting.Sound) ∷
-    case two (get 6 7 ++ (start_get 1 7 ∷ [])) inspect (inspected (Inspecting.Refused Busy)) ∷
+    (inspected no_fault) ∷
+    case two (get 6 7 ++ (start_get 1 7 ∷ [])) inspect (inspected (Err Busy)) ∷
     -- "There are seven counts, one an answer.", in the ledger's order: 5 too old, 4 readings full, 3 added, 2 trays full,
     -- 1 new, 6 found, 7 none
     case (fit 1 4 1 400)

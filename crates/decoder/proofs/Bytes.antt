@@ -1,19 +1,15 @@
--- What one byte more does to a number, and four more.
+-- What four bytes more do to a number.
 use Prim.Native.Nat.{ℕ, ◌+◌, ◌*◌, ◌^◌, ◌<◌, ◌≤◌}
 use mathlib.Core.Path.{◌≡◌, refl, ap, ◌∙◌}
 use mathlib.Core.List.{List, [], ◌∷◌, ◌++◌}
-use native.Mathlib.Nat.{pow-suc, pow-le-pow_right}
+use native.Mathlib.Nat.{pow-le-pow_right}
 use native.Mathlib.Numerals.{add-one}
 use native.Mathlib.Omega.{arith}
 use lib.Dec.{lit<}
 use lib.ListN.{length, take, drop, get_or, length-drop, drop_of_length-le}
-use lib.Seq.{drop-cons, drop-drop, take-add, length-take-le}
+use lib.Seq.{drop-cons, take-add, length-take-le}
 use Rattle.model.specs.Layout.{joined}
 use Rattle.decoder.specs.Commands.{big_endian_from, big_endian}
-
--- one byte more
-pub byte_below : (n k b : ℕ) → n < 256 ^ k → b < 256 → 256 * n + b < 256 ^ (k + 1)
-byte_below n k b h l = rw (add-one, pow-suc) (omega arith)
 
 -- three bytes leave room for a fourth in 32 bits
 pub three_below : (n k : ℕ) → n < 256 ^ k → k < 4 → n < 2 ^ 24
@@ -42,10 +38,8 @@ four_behind n ys h = omega (arith, each n, each 0)
         ∙ ap (big_endian_from _) (drop_of_length-le ys {i = 4} (omega arith))
 
 -- a number of more than four bytes has the last four as its low half
-pub low_behind : (bytes : List ℕ) (at more : ℕ) → at + (more + 4) ≤ length bytes
-    → big_endian (take (more + 4) (drop at bytes)) ≡ joined (big_endian (take 4 (drop (at + more) bytes))) (big_endian (take more (drop at bytes)))
-low_behind bytes at more h =
-    let all : length (take 4 (drop (at + more) bytes)) ≡ 4 = length-take-le 4 (drop (at + more) bytes) (rw length-drop (omega arith)) in
-    ap big_endian (take-add more 4 (drop at bytes) ∙ ap (λ r. take more (drop at bytes) ++ take 4 r) (drop-drop more at bytes))
-    ∙ behind 0 (take more (drop at bytes)) (take 4 (drop (at + more) bytes))
-    ∙ four_behind _ _ all
+pub low_behind : (bytes : List ℕ) (more : ℕ) → more + 4 ≤ length bytes
+    → big_endian (take (more + 4) bytes) ≡ joined (big_endian (take 4 (drop more bytes))) (big_endian (take more bytes))
+low_behind bytes more h =
+    let all : length (take 4 (drop more bytes)) ≡ 4 = length-take-le 4 (drop more bytes) (rw length-drop (omega arith)) in
+    ap big_endian (take-add more 4 bytes) ∙ behind 0 (take more bytes) (take 4 (drop more bytes)) ∙ four_behind _ _ all

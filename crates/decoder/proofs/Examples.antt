@@ -3,7 +3,8 @@ use Prim.Native.Nat.{ℕ, zero, suc}
 use mathlib.Core.Path.{◌≡◌, refl}
 use mathlib.Core.List.{List, [], ◌∷◌, ◌++◌}
 use lib.ListN.{drop}
-use Rattle.decoder.specs.Types.{Open, Put, Get, Step, Look, Inspect, Decoded, Whole, Unknown, Short, End}
+use Rattle.decoder.specs.Types.{Open, Put, Get, Step, Look, Inspect, Decoded, Unknown, Short, End}
+use Rattle.std.specs.Prelude.{Ok, Err}
 use Rattle.decoder.specs.Commands.{big_endian_from, big_endian, form_from, code_from, command_from}
 
 -- "For open 2 3 1 40, get 0 7, six steps of 0, look 7 0"
@@ -16,18 +17,16 @@ sheet =
 
 -- what stands at the start of bytes and behind each command, at most n times
 found : Decoded → (rest : ℕ → List Decoded) → List Decoded
-found (Whole c n) rest = Whole c n ∷ rest n
-found Unknown rest = Unknown ∷ []
-found Short rest = Short ∷ []
-found End rest = End ∷ []
+found (Ok x) rest = Ok x ∷ rest x.1
+found (Err e) rest = Err e ∷ []
 
 all : (n : ℕ) → List ℕ → List Decoded
 all zero bytes = []
 all (suc n) bytes = found (command_from bytes) (λ k. all n (drop k bytes))
 
-sheet_read : all 20 sheet ≡ Whole (Open 2 3 1 40) 10 ∷ Whole (Get 0 7) 6
-    ∷ Whole (Step 0) 2 ∷ Whole (Step 0) 2 ∷ Whole (Step 0) 2 ∷ Whole (Step 0) 2 ∷ Whole (Step 0) 2 ∷ Whole (Step 0) 2
-    ∷ Whole (Look 7 0) 7 ∷ End ∷ []
+sheet_read : all 20 sheet ≡ Ok (Open 2 3 1 40, 10) ∷ Ok (Get 0 7, 6)
+    ∷ Ok (Step 0, 2) ∷ Ok (Step 0, 2) ∷ Ok (Step 0, 2) ∷ Ok (Step 0, 2) ∷ Ok (Step 0, 2) ∷ Ok (Step 0, 2)
+    ∷ Ok (Look 7 0, 7) ∷ Err End ∷ []
 unfolding all found sheet command_from code_from form_from big_endian_from
 sheet_read = refl
 
@@ -43,16 +42,16 @@ command_read : all 20 (
     ∷ 0x67 ∷ 0x01 ∷ 0x02 ∷ 0x03 ∷ 0x04 ∷ 0x05 ∷ 0x06 ∷ 0x07 ∷ 0x08 ∷ 0x09
     ∷ 0x6C ∷ 0x01 ∷ 0x02 ∷ 0x03 ∷ 0x04 ∷ 0x05 ∷ 0x06 ∷ 0x07 ∷ 0x08 ∷ 0x09 ∷ 0x0A
     ∷ 0x2A ∷ []
-    ) ≡ Whole (Open 0x0102 0x0304 0x05 0x06070809) 10
-    ∷ Whole (Put 0x01 0x02030405 0x06070809 0x0A0B0C0D 0x0E0F) 16
-    ∷ Whole (Get 0x01 0x02030405) 6
-    ∷ Whole (Step 0x01) 2
-    ∷ Whole (Look 0x01020304 0x0506) 7
-    ∷ Whole Inspect 1
-    ∷ Whole (Put 0x01 0x0203040506070809 0x0A0B0C0D 0x0E0F1011 0x1213) 20
-    ∷ Whole (Get 0x01 0x0203040506070809) 10
-    ∷ Whole (Look 0x0102030405060708 0x090A) 11
-    ∷ Unknown ∷ []
+    ) ≡ Ok (Open 0x0102 0x0304 0x05 0x06070809, 10)
+    ∷ Ok (Put 0x01 0x02030405 0x06070809 0x0A0B0C0D 0x0E0F, 16)
+    ∷ Ok (Get 0x01 0x02030405, 6)
+    ∷ Ok (Step 0x01, 2)
+    ∷ Ok (Look 0x01020304 0x0506, 7)
+    ∷ Ok (Inspect, 1)
+    ∷ Ok (Put 0x01 0x0203040506070809 0x0A0B0C0D 0x0E0F1011 0x1213, 20)
+    ∷ Ok (Get 0x01 0x0203040506070809, 10)
+    ∷ Ok (Look 0x0102030405060708 0x090A, 11)
+    ∷ Err Unknown ∷ []
 unfolding all found command_from code_from form_from big_endian_from
 command_read = refl
 
@@ -66,7 +65,7 @@ cut_short : all 1 (0x4F ∷ 0 ∷ 2 ∷ 0 ∷ 3 ∷ 1 ∷ 0 ∷ 0 ∷ 0 ∷ [])
     ++ (all 1 (0x67 ∷ 0 ∷ 0 ∷ 0 ∷ 0 ∷ 1 ∷ 0 ∷ 0 ∷ 0 ∷ [])
     ++ (all 1 (0x6C ∷ 0 ∷ 0 ∷ 0 ∷ 1 ∷ 0 ∷ 0 ∷ 0 ∷ 7 ∷ 0 ∷ [])
     ++ (all 1 (0x00 ∷ []) ++ all 1 []))))))))
-    ≡ Short ∷ Short ∷ Short ∷ Short ∷ Short ∷ Short ∷ Short ∷ Short ∷ Unknown ∷ End ∷ []
+    ≡ Err Short ∷ Err Short ∷ Err Short ∷ Err Short ∷ Err Short ∷ Err Short ∷ Err Short ∷ Err Short ∷ Err Unknown ∷ Err End ∷ []
 unfolding all found command_from code_from form_from big_endian_from
 cut_short = refl
 

@@ -8,11 +8,12 @@ use lib.Dec.{eqb, ltb}
 use lib.ListN.{length, drop, length-append, length-drop}
 use lib.Seq.{take-append-le, drop-append-le}
 use borrow.Author.Tests.{le-ltb, ltb-true, ltb-false}
-use Rattle.decoder.specs.Types.{Command, Decoded, Whole, Unknown, Short, End}
+use Rattle.std.specs.Prelude.{Ok, Err}
+use Rattle.decoder.specs.Types.{Command, Decoded, Unknown, Short, End}
 use Rattle.decoder.specs.Commands.{Form, Opcode, opcodes, total, widest, longest_command, operand, command_with, form_from, code_from, command_from}
 
 -- What holds of an unknown byte and of each form holds of every byte; of two lists of bytes behind it, too.
-code_cases : (P : Decoded → Decoded → Type 0) (os : List Opcode) (code : ℕ) (xs zs : List ℕ) → P Unknown Unknown
+code_cases : (P : Decoded → Decoded → Type 0) (os : List Opcode) (code : ℕ) (xs zs : List ℕ) → P (Err Unknown) (Err Unknown)
     → ((f : Form) → total f.widths ≤ widest os → P (form_from f xs) (form_from f zs)) → P (code_from os code xs) (code_from os code zs)
 unfolding code_from
 code_cases P [] code xs zs u h = u
@@ -26,10 +27,10 @@ code_cases P (o ∷ os) code xs zs u h = by (eqb code o.code) refl (code_cases P
 
 -- what more bytes leave as it is
 abbrev pub settled : Decoded → Bool
-settled (Whole c n) = true
-settled Unknown = true
-settled Short = false
-settled End = false
+settled (Ok x) = true
+settled (Err Unknown) = true
+settled (Err Short) = false
+settled (Err End) = false
 
 operand_more : (widths xs ys : List ℕ) → total widths ≤ length xs → (i : ℕ) → operand widths (xs ++ ys) i ≡ operand widths xs i
 operand_more [] xs ys h i = refl
@@ -58,58 +59,63 @@ stays (code ∷ xs) ys h =
 
 -- ---- lengths
 
-form_within : (f : Form) (xs : List ℕ) (c : Command) (n : ℕ) → form_from f xs ≡ Whole c n → (1 ≤ n) × (n ≤ suc (length xs))
+-- how many bytes a whole command has
+abbrev count : Decoded → ℕ
+count (Ok x) = x.1
+count (Err e) = 0
+
+form_within : (f : Form) (xs : List ℕ) (c : Command) (n : ℕ) → form_from f xs ≡ Ok (c, n) → (1 ≤ n) × (n ≤ suc (length xs))
 unfolding form_from
 form_within f xs c n = by (ltb (length xs) (total f.widths)) refl
   where
-    by : (t : Bool) → ltb (length xs) (total f.widths) ≡ t → form_from f xs ≡ Whole c n → (1 ≤ n) × (n ≤ suc (length xs))
-    by true e h = let z : Short ≡ Whole c n = simp e at h in let q : ◌≡◌ {A = ℕ} 0 1 = cc in omega arith
+    by : (t : Bool) → ltb (length xs) (total f.widths) ≡ t → form_from f xs ≡ Ok (c, n) → (1 ≤ n) × (n ≤ suc (length xs))
+    by true e h = let z : ◌≡◌ {A = Decoded} (Err Short) (Ok (c, n)) = simp e at h in let q : ◌≡◌ {A = ℕ} 0 1 = cc in omega arith
     by false e h =
-        let w : Whole (command_with f xs) (1 + total f.widths) ≡ Whole c n = simp e at h in
-        let q : 1 + total f.widths ≡ n = cc in
+        let w : ◌≡◌ {A = Decoded} (Ok (command_with f xs, 1 + total f.widths)) (Ok (c, n)) = simp e at h in
+        let q : 1 + total f.widths ≡ n = ap count w in
         let enough = ltb-false (length xs) (total f.widths) e in
         omega arith
 
 -- a whole command has a byte at least, and lies within the bytes
-pub whole_within : (xs : List ℕ) (c : Command) (n : ℕ) → command_from xs ≡ Whole c n → (1 ≤ n) × (n ≤ length xs)
+pub whole_within : (xs : List ℕ) (c : Command) (n : ℕ) → command_from xs ≡ Ok (c, n) → (1 ≤ n) × (n ≤ length xs)
 unfolding command_from
 whole_within [] c n h = let q : ◌≡◌ {A = ℕ} 0 1 = cc in omega arith
 whole_within (code ∷ xs) c n h =
-    code_cases (λ d e. d ≡ Whole c n → (1 ≤ n) × (n ≤ suc (length xs))) opcodes code xs xs
+    code_cases (λ d e. d ≡ Ok (c, n) → (1 ≤ n) × (n ≤ suc (length xs))) opcodes code xs xs
     (λ e. let q : ◌≡◌ {A = ℕ} 0 1 = cc in omega arith)
     (λ f l. form_within f xs c n)
     h
 
-form_short : (f : Form) (xs : List ℕ) → form_from f xs ≡ Short → length xs < total f.widths
+form_short : (f : Form) (xs : List ℕ) → form_from f xs ≡ Err Short → length xs < total f.widths
 unfolding form_from
 form_short f xs = by (ltb (length xs) (total f.widths)) refl
   where
-    by : (t : Bool) → ltb (length xs) (total f.widths) ≡ t → form_from f xs ≡ Short → length xs < total f.widths
+    by : (t : Bool) → ltb (length xs) (total f.widths) ≡ t → form_from f xs ≡ Err Short → length xs < total f.widths
     by true e h = ltb-true (length xs) (total f.widths) e
-    by false e h = let w : Whole (command_with f xs) (1 + total f.widths) ≡ Short = simp e at h in let q : ◌≡◌ {A = ℕ} 0 1 = cc in omega arith
+    by false e h = let w : ◌≡◌ {A = Decoded} (Ok (command_with f xs, 1 + total f.widths)) (Err Short) = simp e at h in let q : ◌≡◌ {A = ℕ} 0 1 = cc in omega arith
 
 -- whoever holds as many bytes as the longest command has is never told that they are too few
-pub short_below : (xs : List ℕ) → command_from xs ≡ Short → length xs < longest_command
+pub short_below : (xs : List ℕ) → command_from xs ≡ Err Short → length xs < longest_command
 unfolding command_from
 short_below [] h = let q : ◌≡◌ {A = ℕ} 0 1 = cc in omega arith
 short_below (code ∷ xs) h =
-    code_cases (λ d e. d ≡ Short → suc (length xs) < longest_command) opcodes code xs xs
+    code_cases (λ d e. d ≡ Err Short → suc (length xs) < longest_command) opcodes code xs xs
     (λ e. let q : ◌≡◌ {A = ℕ} 0 1 = cc in omega arith)
     (λ f l e. let few = form_short f xs e in omega arith)
     h
 
-form_some : (f : Form) (xs : List ℕ) → form_from f xs ≡ End → ◌≡◌ {A = ℕ} 0 1
+form_some : (f : Form) (xs : List ℕ) → form_from f xs ≡ Err End → ◌≡◌ {A = ℕ} 0 1
 unfolding form_from
 form_some f xs = by (ltb (length xs) (total f.widths)) refl
   where
-    by : (t : Bool) → ltb (length xs) (total f.widths) ≡ t → form_from f xs ≡ End → ◌≡◌ {A = ℕ} 0 1
-    by true e h = let z : Short ≡ End = simp e at h in cc
-    by false e h = let z : Whole (command_with f xs) (1 + total f.widths) ≡ End = simp e at h in cc
+    by : (t : Bool) → ltb (length xs) (total f.widths) ≡ t → form_from f xs ≡ Err End → ◌≡◌ {A = ℕ} 0 1
+    by true e h = let z : ◌≡◌ {A = Decoded} (Err Short) (Err End) = simp e at h in cc
+    by false e h = let z : ◌≡◌ {A = Decoded} (Ok (command_with f xs, 1 + total f.widths)) (Err End) = simp e at h in cc
 
 -- an end is where no byte stands
-pub end_empty : (xs : List ℕ) → command_from xs ≡ End → xs ≡ []
+pub end_empty : (xs : List ℕ) → command_from xs ≡ Err End → xs ≡ []
 unfolding command_from
 end_empty [] h = refl
 end_empty (code ∷ xs) h =
-    let z = code_cases (λ d e. d ≡ End → ◌≡◌ {A = ℕ} 0 1) opcodes code xs xs (λ e. cc) (λ f l. form_some f xs) h in
+    let z = code_cases (λ d e. d ≡ Err End → ◌≡◌ {A = ℕ} 0 1) opcodes code xs xs (λ e. cc) (λ f l. form_some f xs) h in
     cc

@@ -1,7 +1,7 @@
 -- Document 01, "Sheet program": what the bytes of a command mean.
-use Rattle.std.specs.Prelude.{ℕ, zero, suc, ◌+◌, ◌*◌, ◌≤◌, max, List, [], ◌∷◌, eqb, ltb, length, take, drop}
+use Rattle.std.specs.Prelude.{ℕ, zero, suc, ◌+◌, ◌*◌, max, List, [], ◌∷◌, eqb, ltb, length, take, drop, Ok, Err}
 use Rattle.std.specs.Prelude.{if◌then◌else◌}
-use Rattle.decoder.specs.Types.{Command, Open, Put, Get, Step, Look, Inspect, Decoded, Whole, Unknown, Short, End}
+use Rattle.decoder.specs.Types.{Command, Open, Put, Get, Step, Look, Inspect, Decoded, Unknown, Short, End}
 
 -- "big-endian operands": n, and behind it the bytes
 unfoldable pub big_endian_from : ℕ → List ℕ → ℕ
@@ -19,10 +19,7 @@ pub record Form : Type 0 where
 abbrev pub open_form : Form
 open_form = record { widths = 2 ∷ 2 ∷ 1 ∷ 4 ∷ []; command = λ n. Open (n 0) (n 1) (n 2) (n 3) }
 
--- the bytes of a tray, four or eight: all that is asked of their number
-abbrev pub KeyWidth : ℕ → Type 0
-KeyWidth width = (4 ≤ width) × (width ≤ 8)
-
+-- here and below, the width of a key: four bytes or eight
 abbrev pub put_form : (width : ℕ) → Form
 put_form width = record { widths = 1 ∷ width ∷ 4 ∷ 4 ∷ 2 ∷ []; command = λ n. Put (n 0) (n 1) (n 2) (n 3) (n 4) }
 
@@ -84,14 +81,14 @@ command_with f bytes = f.command (operand f.widths bytes)
 
 -- "16 command cut short"
 unfoldable pub form_from : Form → List ℕ → Decoded
-form_from f bytes = if ltb (length bytes) (total f.widths) then Short else Whole (command_with f bytes) (1 + total f.widths)
+form_from f bytes = if ltb (length bytes) (total f.widths) then Err Short else Ok (command_with f bytes, 1 + total f.widths)
 
 -- "15 unknown byte"
 unfoldable pub code_from : List Opcode → (code : ℕ) → List ℕ → Decoded
-code_from [] code bytes = Unknown
+code_from [] code bytes = Err Unknown
 code_from (o ∷ rest) code bytes = if eqb code o.code then form_from o.form bytes else code_from rest code bytes
 
 -- what stands at the start of bytes
 unfoldable pub command_from : List ℕ → Decoded
-command_from [] = End
+command_from [] = Err End
 command_from (code ∷ bytes) = code_from opcodes code bytes

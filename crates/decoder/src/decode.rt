@@ -1,13 +1,17 @@
 // One command from the bytes of a sheet.
-ghost use Rattle.std.specs.Prelude.{◌≡◌, ◌+◌, ◌^◌, ◌≤◌, ◌<◌, length, take, drop};
-ghost use Rattle.decoder.specs.Commands.{open_form, put_form, get_form, step_form, look_form, KeyWidth};
-ghost use Rattle.decoder.specs.Commands.{big_endian, total, command_with, form_from, command_from};
+ghost use Rattle.std.specs.Prelude.{◌≡◌, ◌^◌, ◌≤◌, ◌<◌, length, drop, IfOk};
+ghost use Rattle.decoder.specs.Commands.{open_form, put_form, get_form, step_form, look_form};
+ghost use Rattle.decoder.specs.Commands.{big_endian, opcodes, code_from, command_from};
+ghost use Rattle.decoder.specs.Taking.{bytes_of, TakesNumber, TakesCommand, Decodes};
 
-use crate::types::{Command, Decoded};
+use crate::types::{Command, DecodeError, Decoded, KeyWidth};
 use model::types::Key;
 use values::halves::joined;
 
-// The number that bytes make, the most significant first.
+// What was taken from the front of bytes, and the bytes behind it.
+type Taken<'a, T> = Result<(T, &'a [u8]), DecodeError>;
+
+// The number that bytes make, the most significant first. No `from_be_bytes`: an operand has one, two or four bytes.
 #[tactic(auto, unfolding(crate::specs::Commands::big_endian_from))]
 fn big_endian(bytes: &[u8]) -> u32
     requires { length bytes.now ≤ 4 }
@@ -15,176 +19,119 @@ fn big_endian(bytes: &[u8]) -> u32
     ensures upper_bound { result < 256 ^ length bytes.now }
 {
     let mut n = 0;
-    let mut i = 0;
-    while i < bytes.len() {
-        n = 256 * n + bytes[i] as u32;
-        i += 1;
+    for byte in bytes {
+        n = 256 * n + u32::from(*byte);
     }
     n
 }
 
-// The operand of `width` bytes at `at`.
-fn number(bytes: &[u8], at: usize, width: usize) -> u32
-    requires width_in_bounds { at + width ≤ length bytes.now }
-    requires width_bound { width ≤ 4 }
-    ensures value { result ≡ big_endian (take width (drop at bytes.now)) }
-    ensures upper_bound { result < 256 ^ width }
+// A number of `width` bytes.
+fn take_number(bytes: &[u8], width: usize) -> Taken<'_, u32>
+    requires { width ≤ 4 }
+    ensures taken { TakesNumber width bytes.now result }
+    ensures upper_bound { IfOk result (λ x. x.0 < 256 ^ width) }
 {
-    let end = at + width;
-    big_endian(&bytes[at..end])
+    let (number, rest) = bytes.split_at_checked(width).ok_or(DecodeError::Short)?;
+    Ok((big_endian(number), rest))
 }
 
-// The key of `width` bytes at `at`: the last four are its low half, those before them the high one; of four bytes it is 0.
-fn key_at(bytes: &[u8], at: usize, width: usize) -> Key
-    requires width_in_bounds { at + width ≤ length bytes.now }
-    requires key_width { KeyWidth width }
-    ensures { result ≡ big_endian (take width (drop at bytes.now)) }
+// A key. The bytes before its last four are its high half; of four bytes it is 0.
+fn take_key(bytes: &[u8], width: KeyWidth) -> Taken<'_, Key>
+    ensures { TakesNumber (bytes_of width) bytes.now result }
 {
-    let more = width - 4;
-    let high = number(bytes, at, more);
-    let low = number(bytes, at + more, 4);
-    joined(low, high)
+    let (high, rest) = match width {
+        KeyWidth::Four => (0, bytes),
+        KeyWidth::Eight => take_number(bytes, 4)?,
+    };
+    let (low, rest) = take_number(rest, 4)?;
+    Ok((joined(low, high), rest))
 }
 
-fn open_at(bytes: &[u8], at: usize) -> Command
-    requires { at + total open_form.widths ≤ length bytes.now }
-    ensures { result ≡ command_with open_form (drop at bytes.now) }
+// The commands, each from the bytes behind its code.
+fn open(operands: &[u8]) -> Taken<'_, Command>
+    ensures { TakesCommand open_form operands.now result }
 {
-    let keys = number(bytes, at, 2);
-    let versions = number(bytes, at + 2, 2);
-    let processes = number(bytes, at + 4, 1);
-    let limit = number(bytes, at + 5, 4);
-    Command::Open {
+    let (keys, rest) = take_number(operands, 2)?;
+    let (versions, rest) = take_number(rest, 2)?;
+    let (processes, rest) = take_number(rest, 1)?;
+    let (limit, rest) = take_number(rest, 4)?;
+    let command = Command::Open {
         keys,
         versions,
         processes,
         limit,
-    }
+    };
+    Ok((command, rest))
 }
 
-// In a put, a get and a look the key has `width` bytes.
-fn put_at(bytes: &[u8], at: usize, width: usize) -> Command
-    requires width_in_bounds { at + total (put_form width).widths ≤ length bytes.now }
-    requires key_width { KeyWidth width }
-    ensures { result ≡ command_with (put_form width) (drop at bytes.now) }
+fn put(operands: &[u8], width: KeyWidth) -> Taken<'_, Command>
+    ensures { TakesCommand (put_form (bytes_of width)) operands.now result }
 {
-    let from = at + 1;
-    let next = from + width;
-    let process = number(bytes, at, 1);
-    let key = key_at(bytes, from, width);
-    let value = number(bytes, next, 4);
-    let timestamp = number(bytes, next + 4, 4);
-    let draw = number(bytes, next + 8, 2) as u16;
-    Command::Put {
+    let (process, rest) = take_number(operands, 1)?;
+    let (key, rest) = take_key(rest, width)?;
+    let (value, rest) = take_number(rest, 4)?;
+    let (timestamp, rest) = take_number(rest, 4)?;
+    let (draw, rest) = take_number(rest, 2)?;
+    let command = Command::Put {
         process,
         key,
         value,
         timestamp,
-        draw,
+        draw: draw as u16,
+    };
+    Ok((command, rest))
+}
+
+fn get(operands: &[u8], width: KeyWidth) -> Taken<'_, Command>
+    ensures { TakesCommand (get_form (bytes_of width)) operands.now result }
+{
+    let (process, rest) = take_number(operands, 1)?;
+    let (key, rest) = take_key(rest, width)?;
+    Ok((Command::Get { process, key }, rest))
+}
+
+fn step(operands: &[u8]) -> Taken<'_, Command>
+    ensures { TakesCommand step_form operands.now result }
+{
+    let (process, rest) = take_number(operands, 1)?;
+    Ok((Command::Step { process }, rest))
+}
+
+fn look(operands: &[u8], width: KeyWidth) -> Taken<'_, Command>
+    ensures { TakesCommand (look_form (bytes_of width)) operands.now result }
+{
+    let (key, rest) = take_key(operands, width)?;
+    let (back, rest) = take_number(rest, 2)?;
+    Ok((Command::Look { key, back }, rest))
+}
+
+// The code says which command it is, and the width of its key: the bytes are document 01's, which asks for a match over them.
+#[tactic(auto, using(crate::proofs::Decoding::form_decodes), unfolding(crate::specs::Commands::code_from, crate::specs::Commands::form_from))]
+fn command(code: u8, operands: &[u8]) -> Taken<'_, Command>
+    ensures { Decodes (code_from opcodes code operands.now) operands.now result }
+{
+    match code {
+        0x4F => open(operands),
+        0x50 => put(operands, KeyWidth::Four),
+        0x47 => get(operands, KeyWidth::Four),
+        0x53 => step(operands),
+        0x4C => look(operands, KeyWidth::Four),
+        0x49 => Ok((Command::Inspect, operands)),
+        0x70 => put(operands, KeyWidth::Eight),
+        0x67 => get(operands, KeyWidth::Eight),
+        0x6C => look(operands, KeyWidth::Eight),
+        _ => Err(DecodeError::Unknown),
     }
 }
 
-fn get_at(bytes: &[u8], at: usize, width: usize) -> Command
-    requires width_in_bounds { at + total (get_form width).widths ≤ length bytes.now }
-    requires key_width { KeyWidth width }
-    ensures { result ≡ command_with (get_form width) (drop at bytes.now) }
-{
-    let process = number(bytes, at, 1);
-    let key = key_at(bytes, at + 1, width);
-    Command::Get { process, key }
-}
-
-fn step_at(bytes: &[u8], at: usize) -> Command
-    requires { at + total step_form.widths ≤ length bytes.now }
-    ensures { result ≡ command_with step_form (drop at bytes.now) }
-{
-    let process = number(bytes, at, 1);
-    Command::Step { process }
-}
-
-fn look_at(bytes: &[u8], at: usize, width: usize) -> Command
-    requires width_in_bounds { at + total (look_form width).widths ≤ length bytes.now }
-    requires key_width { KeyWidth width }
-    ensures { result ≡ command_with (look_form width) (drop at bytes.now) }
-{
-    let key = key_at(bytes, at, width);
-    let back = number(bytes, at + width, 2);
-    Command::Look { key, back }
-}
-
-// Each command from the byte behind its code on, where all its operands are there.
-fn open_from(bytes: &[u8], at: usize) -> Decoded
-    requires { at ≤ length bytes.now }
-    ensures { result ≡ form_from open_form (drop at bytes.now) }
-{
-    if bytes.len() - at < 9 {
-        return Decoded::Short;
-    }
-    Decoded::Whole(open_at(bytes, at), 10)
-}
-
-fn put_from(bytes: &[u8], at: usize, width: usize) -> Decoded
-    requires at_in_bounds { at ≤ length bytes.now }
-    requires key_width { KeyWidth width }
-    ensures { result ≡ form_from (put_form width) (drop at bytes.now) }
-{
-    if bytes.len() - at < 11 + width {
-        return Decoded::Short;
-    }
-    Decoded::Whole(put_at(bytes, at, width), 12 + width)
-}
-
-fn get_from(bytes: &[u8], at: usize, width: usize) -> Decoded
-    requires at_in_bounds { at ≤ length bytes.now }
-    requires key_width { KeyWidth width }
-    ensures { result ≡ form_from (get_form width) (drop at bytes.now) }
-{
-    if bytes.len() - at < 1 + width {
-        return Decoded::Short;
-    }
-    Decoded::Whole(get_at(bytes, at, width), 2 + width)
-}
-
-fn step_from(bytes: &[u8], at: usize) -> Decoded
-    requires { at ≤ length bytes.now }
-    ensures { result ≡ form_from step_form (drop at bytes.now) }
-{
-    if bytes.len() - at < 1 {
-        return Decoded::Short;
-    }
-    Decoded::Whole(step_at(bytes, at), 2)
-}
-
-fn look_from(bytes: &[u8], at: usize, width: usize) -> Decoded
-    requires at_in_bounds { at ≤ length bytes.now }
-    requires key_width { KeyWidth width }
-    ensures { result ≡ form_from (look_form width) (drop at bytes.now) }
-{
-    if bytes.len() - at < 2 + width {
-        return Decoded::Short;
-    }
-    Decoded::Whole(look_at(bytes, at, width), 3 + width)
-}
-
-// The command at `at`: its byte chooses the command and the width of a key.
+// The command at `at`. A position, since the bytes of a round are decoded from more than one place.
+#[tactic(auto, unfolding(crate::specs::Commands::command_from))]
 pub fn decode(bytes: &[u8], at: usize) -> Decoded
     ensures { result ≡ command_from (drop at bytes.now) }
 {
-    if bytes.len() <= at {
-        return Decoded::End;
-    }
-    let code = bytes[at];
-    let from = at + 1;
-    match code {
-        0x4F => open_from(bytes, from),
-        0x50 => put_from(bytes, from, 4),
-        0x47 => get_from(bytes, from, 4),
-        0x53 => step_from(bytes, from),
-        0x4C => look_from(bytes, from, 4),
-        0x49 => Decoded::Whole(Command::Inspect, 1),
-        0x70 => put_from(bytes, from, 8),
-        0x67 => get_from(bytes, from, 8),
-        0x6C => look_from(bytes, from, 8),
-        _ => Decoded::Unknown,
-    }
+    let Some([code, operands @ ..]) = bytes.get(at..) else {
+        return Err(DecodeError::End);
+    };
+    let (command, rest) = command(*code, operands)?;
+    Ok((command, 1 + (operands.len() - rest.len())))
 }

@@ -30,11 +30,16 @@ pub enum Command {
     Inspect,
 }
 
-// What stands at a position of the bytes read so far.
+// How many bytes a key has: those of its low half, or of both halves.
 #[derive(Clone, Copy)]
-pub enum Decoded {
-    // A whole command, and how many bytes it has.
-    Whole(Command, usize),
+pub enum KeyWidth {
+    Four,
+    Eight,
+}
+
+// Why no command stands at a position of the bytes read so far.
+#[derive(Clone, Copy)]
+pub enum DecodeError {
     // A byte that begins no command: refusal 15.
     Unknown,
     // The start of a command. Where the input has ended it is refusal 16, else more bytes are to be read.
@@ -42,3 +47,6 @@ pub enum Decoded {
     // No byte.
     End,
 }
+
+// What stands at a position: a command, and how many bytes it has.
+pub type Decoded = Result<(Command, usize), DecodeError>;

@@ -1,10 +1,8 @@
 -- An outcome told beside the words that its call leaves.
+use Rattle.model.specs.Types.{Opening, Starting, Stepping}
 use Prim.Native.Nat.{ℕ}
 use mathlib.Core.List.{List}
 use mathlib.Core.Path.{◌≡◌, ap, ◌∙◌}
-use Rattle.model.specs.declared.types.Opening.{Opening}
-use Rattle.model.specs.declared.types.Starting.{Starting}
-use Rattle.model.specs.declared.types.Stepping.{Stepping}
 use Rattle.lent.specs.Calls.{OpenIn, opened_in, StartIn, started_in, StepIn, stepped_in}
 use Rattle.replies.specs.Told.{Told, open_told, start_told, step_told}
 use Rattle.embed.specs.Calls.{tray_opened, open_reply, tray_started, start_reply, tray_stepped, step_reply}

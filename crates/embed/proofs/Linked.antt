@@ -1,4 +1,7 @@
 -- Demand 3 of what C links: what each call tells means its outcome, so the calls are those of the store in lent words.
+use Rattle.std.specs.Prelude.{Ok, Err, Option, Some}
+use Rattle.model.specs.Types.{Permit, Opening, Starting, Stepping, Looking, Inspecting, Status}
+use Rattle.model.specs.declared.types.Progress.{Progress}
 use Prim.Native.Nat.{ℕ}
 use mathlib.Core.Bool.{Bool, true, false}
 use mathlib.Core.List.{List}
@@ -6,17 +9,9 @@ use mathlib.Core.Path.{◌≡◌, refl, ap, subst, ◌∙◌, fun_ext}
 use borrow.Author.Tests.{ne_eqb}
 use Rattle.model.specs.declared.types.Kind.{Kind}
 use Rattle.model.specs.declared.types.Kind.TheVariants.{Idle, Put, Get, Scan}
-use Rattle.model.specs.declared.types.Permit.{Permit}
-use Rattle.model.specs.declared.types.Permit.TheVariants.{Granted, Denied}
 use Rattle.model.specs.declared.types.Process.{Process}
 use Rattle.model.specs.declared.types.Refusal.{Refusal}
 use Rattle.model.specs.declared.types.Refusal.TheVariants.{Corrupt}
-use Rattle.model.specs.declared.types.Opening.{Opening}
-use Rattle.model.specs.declared.types.Starting.{Starting}
-use Rattle.model.specs.declared.types.Stepping.{Stepping}
-use Rattle.model.specs.declared.types.Looking.{Looking}
-use Rattle.model.specs.declared.types.Inspecting.{Inspecting}
-use Rattle.model.specs.declared.types.Status.{Status}
 use Rattle.std.specs.Prelude.{if◌then◌else◌}
 use Rattle.model.specs.Numbers.{number_of}
 use Rattle.model.specs.State.{process_at}
@@ -45,40 +40,40 @@ refusal_meant f r accepted = simp (ne_eqb (number_of r) 0 (numbered r), refusal_
 
 open_meant_lem : (o : Opening) → open_meant (open_told o) ≡ o
 unfolding open_meant open_told
-open_meant_lem (Opening.Refused r) = refusal_meant Opening.Refused r _
-open_meant_lem Opening.Opened = refl
+open_meant_lem (Err r) = refusal_meant Err r _
+open_meant_lem (Ok _) = refl
 
 start_meant_lem : (o : Starting) → start_meant (start_told o) ≡ o
 unfolding start_meant start_told
-start_meant_lem (Starting.Refused r) = refusal_meant Starting.Refused r _
-start_meant_lem (Starting.Started t) = refl
+start_meant_lem (Err r) = refusal_meant Err r _
+start_meant_lem (Ok t) = refl
 
 step_meant_lem : (o : Stepping) → step_meant (step_told o) ≡ o
 unfolding step_meant step_told
-step_meant_lem (Stepping.Refused r) = refusal_meant Stepping.Refused r _
-step_meant_lem (Stepping.Moved t) = refl
-step_meant_lem (Stepping.Waited t) = refl
-step_meant_lem (Stepping.Shown t x) = simp (joined_halves x.key)
-step_meant_lem (Stepping.Finished f) = simp ((kind_from_lem f.kind).0, answer_at f.answer)
+step_meant_lem (Err r) = refusal_meant Err r _
+step_meant_lem (Ok (Progress.Moved t)) = refl
+step_meant_lem (Ok (Progress.Waited t)) = refl
+step_meant_lem (Ok (Progress.Shown t x)) = simp (joined_halves x.key)
+step_meant_lem (Ok (Progress.Finished f)) = simp ((kind_from_lem f.kind).0, answer_at f.answer)
 
 look_meant_lem : (o : Looking) → look_meant (look_told o) ≡ o
 unfolding look_meant look_told
-look_meant_lem (Looking.Refused r) = refusal_meant Looking.Refused r _
-look_meant_lem (Looking.Shown v) = refl
+look_meant_lem (Err r) = refusal_meant Err r _
+look_meant_lem (Ok v) = refl
 
 inspect_meant_lem : (o : Inspecting) → inspect_meant (inspect_told o) ≡ o
 unfolding inspect_meant inspect_told
-inspect_meant_lem (Inspecting.Refused r) = refusal_meant Inspecting.Refused r _
-inspect_meant_lem Inspecting.Sound = refl
-inspect_meant_lem (Inspecting.Fault level node) = refl
+inspect_meant_lem (Err r) = refusal_meant Err r _
+inspect_meant_lem (Ok Option.None) = refl
+inspect_meant_lem (Ok (Some f)) = refl
 
 -- A running call of kind idle would be told in the words of an idle process: no status is one.
 abbrev MeantAs : Status → Type 0
 MeantAs o = status_meant (status_told o) ≡ o
 
-status_refused : (r : Refusal) → MeantAs (Status.Refused r)
+status_refused : (r : Refusal) → MeantAs (Err r)
 unfolding status_meant status_told
-status_refused r = refusal_meant Status.Refused r _
+status_refused r = refusal_meant Err r _
 
 standing_meant : (k : Kind) (p : Process) → MeantAs (standing k p)
 unfolding status_meant status_told standing
@@ -89,14 +84,14 @@ standing_meant Scan p = refl
 
 status_by_lem : (d : Permit) (p : Process) → MeantAs (status_by d p)
 unfolding status_by
-status_by_lem (Denied r) p = status_refused r
-status_by_lem Granted p = standing_meant p.call.kind p
+status_by_lem (Err r) p = status_refused r
+status_by_lem (Ok _) p = standing_meant p.call.kind p
 
 status_meant_lem : (w : List ℕ) (i : ℕ) → MeantAs (status_in w i)
 unfolding status_in status_of
 status_meant_lem w i = go (is_state_at w i)
   where
-    go : (b : Bool) → MeantAs (if b then status_of (state_from w) i else Status.Refused Corrupt)
+    go : (b : Bool) → MeantAs (if b then status_of (state_from w) i else Err Corrupt)
     go true = status_by_lem (status_permit (state_from w) i) (process_at (state_from w) i)
     go false = status_refused Corrupt
 

@@ -1,13 +1,9 @@
 -- The exported functions as a system: C owns the words and lends them to each call, and what it is told in numbers is taken
 -- for what they mean.
-use Rattle.std.specs.Prelude.{ℕ, List, ◌≡◌, eqb, get_or}
+use Rattle.std.specs.Prelude.{ℕ, List, ◌≡◌, eqb, get_or, Ok, Err}
+use Rattle.model.specs.Types.{Opening, Starting, Stepping, Looking, Inspecting, Status, no_fault, fault_at, idle_status, running_status}
+use Rattle.model.specs.declared.types.Progress.{Progress}
 use Rattle.model.specs.declared.types.Refusal.{Refusal}
-use Rattle.model.specs.declared.types.Opening.{Opening}
-use Rattle.model.specs.declared.types.Starting.{Starting}
-use Rattle.model.specs.declared.types.Stepping.{Stepping}
-use Rattle.model.specs.declared.types.Looking.{Looking}
-use Rattle.model.specs.declared.types.Inspecting.{Inspecting}
-use Rattle.model.specs.declared.types.Status.{Status}
 use Rattle.std.specs.Prelude.{if◌then◌else◌}
 use Rattle.model.specs.Layout.{joined}
 use Rattle.model.specs.Numbers.{refusal_of, answer_of, kind_from}
@@ -27,25 +23,25 @@ abbrev pub by_number : {O : Type 0} → (number : ℕ) → (accepted : O) → (r
 by_number n accepted refused = if eqb n 0 then accepted else refused (refusal_of n)
 
 unfoldable pub open_meant : (number : ℕ) → Opening
-open_meant n = by_number n Opening.Opened Opening.Refused
+open_meant n = by_number n (Ok tt) Err
 
 -- word n of the answer
 abbrev pub word : Told → ℕ → ℕ
 word t n = get_or t.answer n 0
 
 unfoldable pub start_meant : Told → Starting
-start_meant t = by_number t.number (Starting.Started (word t 0)) Starting.Refused
+start_meant t = by_number t.number (Ok (word t 0)) Err
 
 -- what the step did, and the tick
 abbrev pub stepped_meant : Told → Stepping
 stepped_meant t =
-    if eqb (word t 0) moved then Stepping.Moved (word t 1)
-    else if eqb (word t 0) waited then Stepping.Waited (word t 1)
-    else if eqb (word t 0) shown then Stepping.Shown (word t 1) (record {
+    if eqb (word t 0) moved then Ok (Progress.Moved (word t 1))
+    else if eqb (word t 0) waited then Ok (Progress.Waited (word t 1))
+    else if eqb (word t 0) shown then Ok (Progress.Shown (word t 1) (record {
       key = joined (word t 2) (word t 3);
       version = record { value = word t 4; timestamp = word t 5 };
-    })
-    else Stepping.Finished (record {
+    }))
+    else Ok (Progress.Finished (record {
       kind = kind_from (word t 2);
       answer = answer_of (word t 3);
       value = word t 4;
@@ -53,23 +49,23 @@ stepped_meant t =
       start = word t 6;
       effect = word t 7;
       finish = word t 1;
-    })
+    }))
 
 unfoldable pub step_meant : Told → Stepping
-step_meant t = by_number t.number (stepped_meant t) Stepping.Refused
+step_meant t = by_number t.number (stepped_meant t) Err
 
 unfoldable pub look_meant : Told → Looking
-look_meant t = by_number t.number (Looking.Shown (record { value = word t 0; timestamp = word t 1 })) Looking.Refused
+look_meant t = by_number t.number (Ok (record { value = word t 0; timestamp = word t 1 })) Err
 
 unfoldable pub inspect_meant : Told → Inspecting
 inspect_meant t =
-    by_number t.number (if eqb (word t 0) 0 then Inspecting.Sound else Inspecting.Fault (word t 1) (word t 2))
-    Inspecting.Refused
+    by_number t.number (if eqb (word t 0) 0 then no_fault else fault_at (word t 1) (word t 2))
+    Err
 
 unfoldable pub status_meant : Told → Status
 status_meant t =
-    by_number t.number (if eqb (word t 0) 0 then Status.Idle else Status.Running (kind_from (word t 0)) (word t 1) (word t 2))
-    Status.Refused
+    by_number t.number (if eqb (word t 0) 0 then idle_status else running_status (kind_from (word t 0)) (word t 1) (word t 2))
+    Err
 
 -- beside the words that the call leaves: the way back from `open_reply` .. `step_reply`
 abbrev pub open_read : TrayOpen → OpenIn

@@ -4,7 +4,7 @@ ghost use Rattle.ending.specs.Rest.{rest_of};
 
 use crate::types::Rest;
 use decoder::decode::decode;
-use decoder::types::Decoded;
+use decoder::types::DecodeError;
 use model::types::Refusal;
 
 // `ended` tells whether the sheet has no more bytes than these.
@@ -12,17 +12,11 @@ use model::types::Refusal;
 pub fn rest(bytes: &[u8], read: usize, ended: bool) -> Rest
     ensures { result ≡ rest_of bytes.now read ended }
 {
-    let found = decode(bytes, read);
-    match found {
-        Decoded::Whole(command, count) => Rest::Next(command, count),
-        Decoded::Unknown => Rest::Ends(Refusal::UnknownCommand),
-        Decoded::Short => {
-            if ended {
-                Rest::Ends(Refusal::CutShort)
-            } else {
-                Rest::More
-            }
-        }
-        Decoded::End => { if ended { Rest::Over } else { Rest::More } }
+    match decode(bytes, read) {
+        Ok((command, count)) => Rest::Next(command, count),
+        Err(DecodeError::Unknown) => Rest::Ends(Refusal::UnknownCommand),
+        Err(DecodeError::Short | DecodeError::End) if !ended => Rest::More,
+        Err(DecodeError::Short) => Rest::Ends(Refusal::CutShort),
+        Err(DecodeError::End) => Rest::Over,
     }
 }

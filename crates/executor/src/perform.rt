@@ -13,35 +13,18 @@ use printer::types::Line;
 fn opens(command: Command) -> bool
     ensures { result ≡ opens command }
 {
-    match command {
-        Command::Open {
-            keys: _,
-            versions: _,
-            processes: _,
-            limit: _,
-        } => true,
-        Command::Put {
-            process: _,
-            key: _,
-            value: _,
-            timestamp: _,
-            draw: _,
-        } => false,
-        Command::Get { process: _, key: _ } => false,
-        Command::Step { process: _ } => false,
-        Command::Look { key: _, back: _ } => false,
-        Command::Inspect => false,
-    }
+    matches!(command, Command::Open { .. })
 }
 
 // A command other than an open needs an open store.
 fn allowed(opened: bool, command: Command) -> bool
     ensures { result ≡ (opened || opens command) }
 {
-    if opened { true } else { opens(command) }
+    opened || opens(command)
 }
 
-// The call that the command asks for. A look and an inspection leave the state, so it is handed back as it came.
+// The call that the command asks for. A look and an inspection leave the state, so it is handed back as it came. A match, and no table of
+// functions: each command has operands of its own and needs other buffers.
 #[tactic(auto, unfolding(buffers::specs::Session::call_on))]
 fn call(
     s: State,

@@ -17,7 +17,7 @@ use Rattle.model.proofs.Laws.{granted_iff}
 use Rattle.linearizability.proofs.Live.{memory, slot, Live}
 use Rattle.model.proofs.Seen.{Seen, seen}
 use Rattle.linearizability.proofs.Linearized.{act_live, performed_live, fresh_live}
-use Rattle.figure.specs.Types.{Kind, Answer, Call, Version, End, Permit, Granted, Denied, Refusal, Starting, StartResult, Stepping}
+use Rattle.figure.specs.Types.{Kind, Answer, Call, Version, End, Permit, Ok, Err, Refusal, StartResult, Progress}
 use Rattle.figure.specs.Figure.{MAX}
 use Rattle.figure.specs.Alone.{Ran, ran, moves, Reached, rested}
 use Rattle.figure.proofs.Runs.{Place, at_place, stepped, Run, Ended, run_call}
@@ -41,15 +41,15 @@ pub record Accepted (w : Store) (i : ℕ) (call : Call) (start : ℕ) (begins : 
   pub start_is : start ≡ w.state.events + 1
   pub state_is : begins.state ≡ with_event w.state i w.state.counts (begun call)
 
-started≢refused : {r : Refusal} {t : ℕ} → Starting.Refused r ≡ Starting.Started t → ⊥
+started≢refused : {r : Refusal} {t : ℕ} → Err r ≡ Ok t → ⊥
 started≢refused e = let z : ◌≡◌ {A = ℕ} 0 1 = cc in omega arith
 
 pub accepted : (w : Store) (i start : ℕ) (call : Call) (p : Permit)
     → start_permit w.state w.nodes w.versions i call.key call.last ≡ p
-    → (start_by p w.state i call).outcome ≡ Starting.Started start → Accepted w i call start (start_by p w.state i call)
+    → (start_by p w.state i call).outcome ≡ Ok start → Accepted w i call start (start_by p w.state i call)
 unfolding start_by start_permit
-accepted w i start call (Denied r) e o = absurd (started≢refused o)
-accepted w i start call Granted e o =
+accepted w i start call (Err r) e o = absurd (started≢refused o)
+accepted w i start call (Ok _) e o =
     let f = simp granted_iff at e in
     let key = simp and-eq-true_iff at (not-false (lawful_key call.key && lawful_key call.last) f.1.1.0) in
     record {
@@ -72,7 +72,7 @@ module _ (w : Store) (i : ℕ) (call : Call) where
   -- what a call that ends says and leaves
   abbrev Says : (moved : ℕ) → Kind → (begun : ℕ) → Answer → Version → (effect finish : ℕ) → Store → Ran
   Says moved kind begun a v effect finish left = record {
-    outcomes = moves (start + 1) moved ++ (Stepping.Finished (record {
+    outcomes = moves (start + 1) moved ++ (Ok (Progress.Finished (record {
       kind = kind;
       answer = a;
       value = v.value;
@@ -80,7 +80,7 @@ module _ (w : Store) (i : ℕ) (call : Call) where
       start = begun;
       effect = effect;
       finish = finish;
-    }) ∷ []);
+    })) ∷ []);
     store = left;
   }
 

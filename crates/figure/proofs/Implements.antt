@@ -20,7 +20,7 @@ use Rattle.linearizability.proofs.Effects.{Took, played}
 use Rattle.linearizability.proofs.Live.{Live}
 use Rattle.linearizability.proofs.Stepped.{put_applied}
 use Rattle.linearizability.proofs.Opened.{opened_live}
-use Rattle.figure.specs.Types.{Answer, Call, Opening}
+use Rattle.figure.specs.Types.{Answer, Call, Ok}
 use Rattle.figure.specs.Figure.{HMAX, MAX, head, alone, put}
 use Rattle.figure.specs.Alone.{memory_in, Free, Unlocked}
 use Rattle.figure.specs.OneByOne.{Request, putting, getting, operation_of, figure_reply, figure_memory, figure_all, ledger_all, Lawful, FigureImplements}
@@ -110,7 +110,7 @@ no_effects K W b [] e q = q
 no_effects K W b (x ∷ es) e q = absurd (omega arith)
 
 pub opened_ordered : (nodes versions : List ℕ) (processes limit : ℕ)
-    → (open_of nodes versions processes limit).result.outcome ≡ Opening.Opened
+    → (open_of nodes versions processes limit).result.outcome ≡ (Ok tt)
     → Ordered (capacity node_words (length nodes)) (capacity version_words (length versions))
     (memory_in (fresh_store (open_of nodes versions processes limit))) []
 opened_ordered nodes versions processes limit opened = record {

@@ -13,7 +13,7 @@ use Rattle.model.specs.Calls.{begun, process_after}
 use Rattle.model.specs.Roles.{is_put, is_get, is_scan}
 use Rattle.model.proofs.Words.{filled}
 use Rattle.linearizability.proofs.Invariant.{Ghost, Nodes, Book, At, PlacedOf, Fits, fits_at}
-use Rattle.linearizability.proofs.Step.{searches, Ending, Does, Good, Result}
+use Rattle.linearizability.proofs.Step.{searches, Ending, Does, Good, GoodStep}
 use Rattle.linearizability.proofs.Transition.{transition_good}
 use Rattle.figure.specs.Types.{Kind, Idle, Put, Get, Walk, Answer, Call, Effect, Process, Version, Move, Refuse, Wait, Go, Note, Commit, Show, End}
 use Rattle.figure.proofs.Walking.{Asked}
@@ -174,7 +174,7 @@ module _ {m : Memory} {g : Ghost} {b : Map} (N : Nodes m g) (B : Book m b) {kind
 
     -- the last step
     good : Good last.memory kept.held.ghost i last.process (start + n) kept.map (End a v e) left
-    good = subst (λ (r : Moved). Result last.memory kept.held.ghost i last.process (start + n) kept.map r) E.ends
+    good = subst (λ (r : Moved). GoodStep last.memory kept.held.ghost i last.process (start + n) kept.map r) E.ends
         (transition_good last.memory kept.held.ghost i last.process (start + n) kept.map kept.held.nodes
         kept.held.book (λ z. omega (arith, E.steps_is))
         kept.held.fits (λ z. has_call (ap (λ (c : Call). c.kind) (sym same) ∙ z)))

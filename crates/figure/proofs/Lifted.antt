@@ -20,7 +20,7 @@ use Rattle.model.proofs.Seen.{Seen, saw_step}
 use Rattle.model.proofs.Tests.{is_true, if_no, eq→eqb}
 use Rattle.linearizability.proofs.Live.{memory, slot, Live, core_lawful}
 use Rattle.linearizability.proofs.Stepped.{step_live}
-use Rattle.figure.specs.Types.{Kind, Idle, Put, Get, Scan, Role, Searching, Reading, Writing, Releasing, Following, Answer, Process, Version, Move, Refuse, Wait, Go, Note, Commit, Show, End, Granted, Stepping}
+use Rattle.figure.specs.Types.{Kind, Idle, Put, Get, Scan, Role, Searching, Reading, Writing, Releasing, Following, Answer, Process, Version, Move, Refuse, Wait, Go, Note, Commit, Show, End, Ok, Progress}
 use Rattle.figure.specs.Alone.{Ran, ran, moves, rested}
 use Rattle.figure.proofs.Runs.{Going, Place, at_place, stepped, place_after, Goes}
 
@@ -85,7 +85,7 @@ module _ {K W : ℕ} {w : Store} {h : Seen} (l : Live K W w h) (i : ℕ) (below 
   abbrev tick : ℕ
   tick = w.state.events + 1
 
-  granted : (slot w i).call.kind ≢ Idle → step_permit w i ≡ Granted
+  granted : (slot w i).call.kind ≢ Idle → step_permit w i ≡ (Ok tt)
   unfolding step_permit
   granted busy = rw (
     core_lawful l.core,
@@ -97,7 +97,7 @@ module _ {K W : ℕ} {w : Store} {h : Seen} (l : Live K W w h) (i : ℕ) (below 
 
   -- a step that makes a move is not refused
   pub step_is : (v : Move) (m : Memory) → stepped i tick (place_in w i) ≡ moved m v → v ≢ Refuse
-      → step_of w i ≡ step_by Granted w i (moved m v)
+      → step_of w i ≡ step_by (Ok tt) w i (moved m v)
   unfolding step_of
   step_is v m e moves = rw (granted busy, e)
     where
@@ -105,8 +105,8 @@ module _ {K W : ℕ} {w : Store} {h : Seen} (l : Live K W w h) (i : ℕ) (below 
       busy idle = moves (ap (λ (r : Moved). r.move) (sym e ∙ idle_refuses (i + 1) tick (slot w i) (memory w) idle))
 
   goes_by : (v : Move) (m : Memory) → Going v
-      → step_by Granted w i (moved m v)
-      ≡ record { outcome = Stepping.Moved tick; store = later w i 1 (at_place (process_after tick (slot w i) v) m) }
+      → step_by (Ok tt) w i (moved m v)
+      ≡ record { outcome = Ok (Progress.Moved tick); store = later w i 1 (at_place (process_after tick (slot w i) v) m) }
   unfolding step_by outcome_of tally_after
   goes_by Refuse m g = absurd g
   goes_by Wait m g = absurd g
@@ -120,12 +120,12 @@ module _ {K W : ℕ} {w : Store} {h : Seen} (l : Live K W w h) (i : ℕ) (below 
   going_moves v g e = subst Going e g
 
   step_goes : (v : Move) (m : Memory) → stepped i tick (place_in w i) ≡ moved m v → Going v
-      → step_of w i ≡ record { outcome = Stepping.Moved tick; store = later w i 1 (at_place (process_after tick (slot w i) v) m) }
+      → step_of w i ≡ record { outcome = Ok (Progress.Moved tick); store = later w i 1 (at_place (process_after tick (slot w i) v) m) }
   step_goes v m e g = step_is v m e (going_moves v g) ∙ goes_by v m g
 
   pub step_ends : (m : Memory) (a : Answer) (v : Version) (e : ℕ) → stepped i tick (place_in w i) ≡ moved m (End a v e)
       → step_of w i ≡ record {
-        outcome = Stepping.Finished (record {
+        outcome = Ok (Progress.Finished (record {
           kind = (slot w i).call.kind;
           answer = a;
           value = v.value;
@@ -133,7 +133,7 @@ module _ {K W : ℕ} {w : Store} {h : Seen} (l : Live K W w h) (i : ℕ) (below 
           start = (slot w i).call.start;
           effect = e;
           finish = tick;
-        });
+        }));
         store = rested w i 1 m a;
       }
   unfolding step_by outcome_of process_after tally_after
@@ -176,17 +176,17 @@ lift {K} {W} i (suc n) {w} {h} l below time y go =
     let x = place_after i t (place_in w i) in
     let v = (stepped i t (place_in w i)).move in
     let w₁ = later w i 1 x in
-    let s : step_of w i ≡ record { outcome = Stepping.Moved t; store = w₁ } =
+    let s : step_of w i ≡ record { outcome = Ok (Progress.Moved t); store = w₁ } =
     step_goes l i below (omega arith) v x.memory refl go.0 in
-    let l₁ : Live K W w₁ (saw_step h i (Stepping.Moved t)) =
+    let l₁ : Live K W w₁ (saw_step h i (Ok (Progress.Moved t))) =
     subst (λ (o : Stepped). Live K W o.store (saw_step h i o.outcome)) s (step_live l i) in
     let here : place_in w₁ i ≡ x = placed l i below 1 x in
     let rest = lift i n l₁ below (omega arith) y (rw (add-one t, here) go.1) in
     let e : later w₁ i n y ≡ later w i (suc n) y = later_on w i 1 n x y ∙ ap (λ k. later w i k y) (one_more n) in
     record {
       turns = ap (then i n) s
-          ∙ ap (λ (r : Ran). record { outcomes = Stepping.Moved t ∷ r.outcomes; store = r.store }) rest.turns
-          ∙ ap (λ (z : Store). record { outcomes = Stepping.Moved t ∷ moves (t + 1) n; store = z }) e;
+          ∙ ap (λ (r : Ran). record { outcomes = Ok (Progress.Moved t) ∷ r.outcomes; store = r.store }) rest.turns
+          ∙ ap (λ (z : Store). record { outcomes = Ok (Progress.Moved t) ∷ moves (t + 1) n; store = z }) e;
       history = rest.history;
       live = subst (λ z. Live K W z rest.history) e rest.live;
     }

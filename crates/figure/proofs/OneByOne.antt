@@ -21,7 +21,7 @@ use Rattle.model.proofs.Tests.{by_eq}
 use Rattle.model.proofs.Laws.{top_at_most}
 use Rattle.linearizability.proofs.Opened.{opened_live}
 use Rattle.linearizability.proofs.Live.{slot, Live, core_lawful, status_is}
-use Rattle.figure.specs.Types.{Idle, Answer, Call, Process, Finish, Opening, Starting, Stepping, Granted}
+use Rattle.figure.specs.Types.{Idle, Answer, Call, Process, Finish, Opening, Ok, Progress}
 use Rattle.figure.specs.Figure.{get, alone, put}
 use Rattle.figure.specs.Steps.{steps_of}
 use Rattle.figure.specs.Alone.{Ran, ran, moves, Reached, memory_in, rested, Resting}
@@ -61,7 +61,7 @@ reached_ran i (suc n) r = reached_ran i n (reached_on r (step i))
 module _ (w : Store) (lives : Lives w) (i k : ℕ) (below : i < w.state.processes) (lawful : lawful_key k ≡ true)
     (idle : (slot w i).call.kind ≡ Idle)
     (time : w.state.events < w.state.limit) where
-  may_start : start_permit w.state w.nodes w.versions i k k ≡ Granted
+  may_start : start_permit w.state w.nodes w.versions i k k ≡ (Ok tt)
   unfolding start_permit
   may_start = rw (
     core_lawful lives.live.core,
@@ -73,13 +73,13 @@ module _ (w : Store) (lives : Lives w) (i k : ℕ) (below : i < w.state.processe
   )
 
   starts : (op : Operation) → first_of op ≡ k → last_of op ≡ k
-      → (start_of w.state w.nodes w.versions i op).outcome ≡ Starting.Started (w.state.events + 1)
+      → (start_of w.state w.nodes w.versions i op).outcome ≡ Ok (w.state.events + 1)
   unfolding start_of start_by
   starts op e f = rw (e, f, may_start)
 
 -- ---- what one call tells
 
-told_end : (t n : ℕ) (f : Finish) → told (moves t n ++ (Stepping.Finished f ∷ []))
+told_end : (t n : ℕ) (f : Finish) → told (moves t n ++ (Ok (Progress.Finished f) ∷ []))
     ≡ record { answer = f.answer; version = record { value = f.value; timestamp = f.timestamp } } ∷ []
 unfolding told moves
 told_end t zero f = refl

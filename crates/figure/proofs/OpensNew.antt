@@ -9,7 +9,7 @@ use Rattle.model.specs.Layout.{with_word, fresh_nodes, node_record}
 use Rattle.model.specs.Calls.{open_permit, open_by, open_of}
 use Rattle.model.specs.ByValue.{fresh_store}
 use Rattle.model.proofs.Words.{filled}
-use Rattle.figure.specs.Types.{Permit, Granted, Denied, Refusal, Opening}
+use Rattle.figure.specs.Types.{Permit, Ok, Err, Refusal, Opening}
 use Rattle.figure.specs.Figure.{HMAX, AllocN, ref_node, init_locks, new}
 use Rattle.figure.specs.Alone.{memory_in, OpensNew}
 use Rattle.figure.proofs.Writing.{sets_set}
@@ -80,11 +80,11 @@ pub opens_new : OpensNew
 unfolding open_of
 opens_new nodes versions processes limit opened bound lt unmade = go (open_permit nodes versions processes limit) opened
   where
-    go : (p : Permit) → (open_by p nodes versions processes limit).result.outcome ≡ Opening.Opened
+    go : (p : Permit) → (open_by p nodes versions processes limit).result.outcome ≡ (Ok tt)
         → memory_in (fresh_store (open_by p nodes versions processes limit))
         ≡ new bound (length nodes) (length versions) unmade
-    go (Denied r) e = absurd (unfold open_by in (refused≢opened r e))
+    go (Err r) e = absurd (unfold open_by in (refused≢opened r e))
       where
-        refused≢opened : (r : Refusal) → Opening.Refused r ≡ Opening.Opened → ⊥
+        refused≢opened : (r : Refusal) → ◌≡◌ {A = Opening} (Err r) (Ok tt) → ⊥
         refused≢opened r e = let z : ◌≡◌ {A = ℕ} 0 1 = cc in omega arith
-    go Granted e = unfold open_by in (new_is bound (length nodes) (length versions) unmade lt)
+    go (Ok _) e = unfold open_by in (new_is bound (length nodes) (length versions) unmade lt)

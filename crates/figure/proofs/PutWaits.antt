@@ -15,7 +15,7 @@ use Rattle.model.proofs.Seen.{Seen, saw_step}
 use Rattle.model.specs.ByValue.{with_state}
 use Rattle.linearizability.proofs.Live.{memory, Live}
 use Rattle.linearizability.proofs.Stepped.{step_live}
-use Rattle.figure.specs.Types.{Call, State, Wait, Stepping}
+use Rattle.figure.specs.Types.{Call, State, Wait, Ok, Progress}
 use Rattle.figure.specs.Figure.{put}
 use Rattle.figure.specs.Steps.{search_steps}
 use Rattle.figure.specs.Alone.{left_below, Ran, ran, memory_in, waits, waited, Waits, PutWaits}
@@ -28,7 +28,7 @@ use Rattle.figure.proofs.Called.{accepted, Lives, reached_lives, acted_lives, he
 wait_step : {K W : ℕ} {w : Store} {h : Seen} → Live K W w h → (i : ℕ) → i < w.state.processes
     → w.state.events < w.state.limit
     → stepped i (w.state.events + 1) (place_in w i) ≡ moved (memory w) Wait
-    → step_of w i ≡ record { outcome = Stepping.Waited (w.state.events + 1); store = waited w 1 }
+    → step_of w i ≡ record { outcome = Ok (Progress.Waited (w.state.events + 1)); store = waited w 1 }
 unfolding step_by outcome_of process_after tally_after
 wait_step {w = w} l i below time e =
     step_is l i below time Wait (memory w) e (λ z. let n : ◌≡◌ {A = ℕ} 0 1 = cc in omega arith)
@@ -45,14 +45,14 @@ unfolding ran waits
 stays i zero {w} l below time still = rw (add-zero w.state.events)
 stays {K} {W} i (suc n) {w} {h} l below time still =
     let t = w.state.events + 1 in
-    let s : step_of w i ≡ record { outcome = Stepping.Waited t; store = waited w 1 } =
+    let s : step_of w i ≡ record { outcome = Ok (Progress.Waited t); store = waited w 1 } =
     wait_step l i below (omega arith) (still t) in
-    let l₁ : Live K W (waited w 1) (saw_step h i (Stepping.Waited t)) =
+    let l₁ : Live K W (waited w 1) (saw_step h i (Ok (Progress.Waited t))) =
     subst (λ (o : Stepped). Live K W o.store (saw_step h i o.outcome)) s (step_live l i) in
     ap (then i n) s
-    ∙ ap (λ (r : Ran). record { outcomes = Stepping.Waited t ∷ r.outcomes; store = r.store })
+    ∙ ap (λ (r : Ran). record { outcomes = Ok (Progress.Waited t) ∷ r.outcomes; store = r.store })
     (stays i n l₁ below (omega arith) still)
-    ∙ ap (λ (z : Store). record { outcomes = Stepping.Waited t ∷ waits (t + 1) n; store = z })
+    ∙ ap (λ (z : Store). record { outcomes = Ok (Progress.Waited t) ∷ waits (t + 1) n; store = z })
     (waited_on w 1 n ∙ ap (waited w) (one_more n))
   where
     one_more : (k : ℕ) → 1 + k ≡ suc k

@@ -10,7 +10,7 @@ use Rattle.model.specs.Calls.{Store, standing, top_of}
 use Rattle.model.proofs.Tests.{by_le}
 use Rattle.model.proofs.Laws.{top_at_most}
 use Rattle.linearizability.proofs.Live.{slot, status_is}
-use Rattle.figure.specs.Types.{Kind, Idle, Put, Get, Scan, Process, Status}
+use Rattle.figure.specs.Types.{Kind, Idle, Put, Get, Scan, Process, idle_status}
 use Rattle.figure.specs.Figure.{HMAX, MAX, head, alone, put}
 use Rattle.figure.specs.Alone.{memory_in, Resting, RestUnlocks, UnlockedFrees, PutUnlocks}
 use Rattle.figure.proofs.Search.{at_head, all_finds}
@@ -19,7 +19,7 @@ use Rattle.figure.proofs.Putting.{put_locks}
 use Rattle.figure.proofs.Called.{Lives, reached_lives}
 
 -- standing says idle of a process without a call alone
-shown_idle : (kind : Kind) (pr : Process) → standing kind pr ≡ Status.Idle → kind ≡ Idle
+shown_idle : (kind : Kind) (pr : Process) → standing kind pr ≡ idle_status → kind ≡ Idle
 unfolding standing
 shown_idle Idle pr e = refl
 shown_idle Put pr e = absurd (let z : ◌≡◌ {A = ℕ} 0 1 = cc in omega arith)

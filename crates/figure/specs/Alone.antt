@@ -8,7 +8,7 @@ use Rattle.model.specs.Requests as Requests
 use Rattle.model.specs.System.{opened}
 use Rattle.model.specs.History.{Action, perform_all, begin}
 use Rattle.model.specs.ByValue.{with_state, Given, fresh_store, by_value}
-use Rattle.figure.specs.Types.{Put, Get, Answer, New, Opening, Starting, Stepping, Status}
+use Rattle.figure.specs.Types.{Put, Get, Answer, New, Stepping, Ok, Progress, idle_status}
 use Rattle.figure.specs.Figure.{HMAX, head, new, find_all, get, alone, insert_all, put}
 use Rattle.figure.specs.Steps.{search_steps, steps_of}
 
@@ -30,7 +30,7 @@ ran w i (suc n) =
 -- n steps that all moved on, the first with this tick: no wait, no refusal, no end
 unfoldable pub moves : (tick n : ℕ) → List Stepping
 moves tick zero = []
-moves tick (suc n) = Stepping.Moved tick ∷ moves (tick + 1) n
+moves tick (suc n) = Ok (Progress.Moved tick) ∷ moves (tick + 1) n
 
 -- ---- the stores
 
@@ -72,9 +72,9 @@ GetAlone = (w : Store) → Reached w → (bound : ℕ) → w.state.counts.nodes 
     let m = memory_in w in
     let r = get bound m k in
     let n = steps_of bound m k r.answer 0 in
-    begun.outcome ≡ Starting.Started start → start + n ≤ w.state.limit
+    begun.outcome ≡ Ok start → start + n ≤ w.state.limit
     → ran (with_state w begun.state) i n ≡ record {
-      outcomes = moves (start + 1) (n - 1) ++ (Stepping.Finished (record {
+      outcomes = moves (start + 1) (n - 1) ++ (Ok (Progress.Finished (record {
         kind = Get;
         answer = r.answer;
         value = r.version.value;
@@ -82,7 +82,7 @@ GetAlone = (w : Store) → Reached w → (bound : ℕ) → w.state.counts.nodes 
         start = start;
         effect = start + n;
         finish = start + n;
-      }) ∷ []);
+      })) ∷ []);
       store = rested w i (n + 1) m r.answer;
     }
 
@@ -102,9 +102,9 @@ PutAlone = (w : Store) → Reached w → (bound : ℕ) → w.state.counts.nodes 
     let m = memory_in w in
     let o = put alone i bound m k v t draw in
     let n = steps_of bound m k o.answer (top_of draw) in
-    Free bound m k (top_of draw) o.answer → begun.outcome ≡ Starting.Started start → start + n ≤ w.state.limit
+    Free bound m k (top_of draw) o.answer → begun.outcome ≡ Ok start → start + n ≤ w.state.limit
     → ran (with_state w begun.state) i n ≡ record {
-      outcomes = moves (start + 1) (n - 1) ++ (Stepping.Finished (record {
+      outcomes = moves (start + 1) (n - 1) ++ (Ok (Progress.Finished (record {
         kind = Put;
         answer = o.answer;
         value = v;
@@ -112,7 +112,7 @@ PutAlone = (w : Store) → Reached w → (bound : ℕ) → w.state.counts.nodes 
         start = start;
         effect = start + (search_steps bound m k + 4);
         finish = start + n;
-      }) ∷ []);
+      })) ∷ []);
       store = rested w i (n + 1) o.memory o.answer;
     }
 
@@ -122,7 +122,7 @@ abbrev pub Unlocked : Memory → Type 0
 Unlocked m = (l x : ℕ) → l ≤ HMAX → x ≤ m.counts.nodes → lock m.nodes l x ≡ 0
 
 abbrev pub Resting : Store → Type 0
-Resting w = (i : ℕ) → i < w.state.processes → status_of w.state i ≡ Status.Idle
+Resting w = (i : ℕ) → i < w.state.processes → status_of w.state i ≡ idle_status
 
 abbrev pub RestUnlocks : Type 0
 RestUnlocks = (w : Store) → Reached w → Resting w → Unlocked (memory_in w)
@@ -142,7 +142,7 @@ PutUnlocks = (w : Store) → Reached w → Unlocked (memory_in w)
 -- n steps that all waited, the first with this tick
 unfoldable pub waits : (tick n : ℕ) → List Stepping
 waits tick zero = []
-waits tick (suc n) = Stepping.Waited tick ∷ waits (tick + 1) n
+waits tick (suc n) = Ok (Progress.Waited tick) ∷ waits (tick + 1) n
 
 -- the store n events later, and all else as it was
 abbrev pub waited : Store → (n : ℕ) → Store
@@ -185,7 +185,7 @@ PutWaits = (w : Store) → Reached w → (bound : ℕ) → w.state.counts.nodes 
     l ≤ h → ((j : ℕ) → j < l → lock m.nodes j (find_all bound m head k HMAX j).pred ≡ 0)
     → lock m.nodes l (find_all bound m head k HMAX l).pred ≢ 0
     → (l ≢ 0 → (put alone i bound m k v t draw).answer ≡ New)
-    → begun.outcome ≡ Starting.Started start → start + n ≤ w.state.limit
+    → begun.outcome ≡ Ok start → start + n ≤ w.state.limit
     → Waits (with_state w begun.state) i start n (left_below i bound m k v t h l)
 
 -- ---- new
@@ -194,7 +194,7 @@ PutWaits = (w : Store) → Reached w → (bound : ℕ) → w.state.counts.nodes 
 -- link leading to the right one, and every lock made, whatever it held before.
 abbrev pub OpensNew : Type 0
 OpensNew = (nodes versions : List ℕ) (processes limit : ℕ)
-    → (open_of nodes versions processes limit).result.outcome ≡ Opening.Opened
+    → (open_of nodes versions processes limit).result.outcome ≡ (Ok tt)
     → (bound : ℕ) → HMAX < bound → (unmade : ℕ)
     → memory_in (fresh_store (open_of nodes versions processes limit))
     ≡ new bound (length nodes) (length versions) unmade

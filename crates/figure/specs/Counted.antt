@@ -5,7 +5,7 @@ use Rattle.model.specs.Layout.{Memory}
 use Rattle.model.specs.State.{lawful_key}
 use Rattle.model.specs.Calls.{open_of, top_of, Store}
 use Rattle.model.specs.ByValue.{fresh_store}
-use Rattle.figure.specs.Types.{New, None, Opening}
+use Rattle.figure.specs.Types.{New, None, Ok}
 use Rattle.figure.specs.Figure.{get, alone, put}
 use Rattle.figure.specs.Steps.{search_steps, steps_of, smaller}
 use Rattle.figure.specs.Alone.{Reached, memory_in, Unlocked}
@@ -33,7 +33,7 @@ pub record Empty (bound : ℕ) (m : Memory) (k : ℕ) : Type 0 where
 -- in every store that is freshly opened, for every lawful key
 abbrev pub EmptySteps : Type 0
 EmptySteps = (nodes versions : List ℕ) (processes limit : ℕ)
-    → (open_of nodes versions processes limit).result.outcome ≡ Opening.Opened
+    → (open_of nodes versions processes limit).result.outcome ≡ (Ok tt)
     → (bound k : ℕ) → 0 < bound → lawful_key k ≡ true
     → Empty bound (memory_in (fresh_store (open_of nodes versions processes limit))) k
 

@@ -10,7 +10,7 @@ use Rattle.model.specs.Requests as Requests
 use Rattle.model.specs.Requests.{Operation, first_of}
 use Rattle.model.specs.ByValue.{with_state, fresh_store}
 use Rattle.model.specs.Linearizability.{All}
-use Rattle.figure.specs.Types.{Opening, Stepping}
+use Rattle.figure.specs.Types.{Stepping, Ok, Err, Progress}
 use Rattle.figure.specs.Figure.{HMAX, new, get, alone, put}
 use Rattle.figure.specs.Steps.{steps_of}
 use Rattle.figure.specs.Alone.{Ran, ran, Reached, memory_in, Resting}
@@ -75,11 +75,11 @@ store_does bound w r =
 -- what finishing steps have told
 unfoldable pub told : List Stepping → List Reply
 told [] = []
-told (Stepping.Refused r ∷ os) = told os
-told (Stepping.Moved t ∷ os) = told os
-told (Stepping.Waited t ∷ os) = told os
-told (Stepping.Shown t x ∷ os) = told os
-told (Stepping.Finished f ∷ os) =
+told (Err r ∷ os) = told os
+told (Ok (Progress.Moved t) ∷ os) = told os
+told (Ok (Progress.Waited t) ∷ os) = told os
+told (Ok (Progress.Shown t x) ∷ os) = told os
+told (Ok (Progress.Finished f) ∷ os) =
     record { answer = f.answer; version = record { value = f.value; timestamp = f.timestamp } } ∷ told os
 
 unfoldable pub store_all : (bound : ℕ) → Store → List Request → List Reply
@@ -115,7 +115,7 @@ FigureImplements = (nodes versions : ℕ) → lawful_nodes nodes ≡ true → la
 -- and so does a store that is freshly opened, one call at a time
 abbrev pub StoreImplements : Type 0
 StoreImplements = (nodes versions : List ℕ) (processes limit : ℕ)
-    → (open_of nodes versions processes limit).result.outcome ≡ Opening.Opened
+    → (open_of nodes versions processes limit).result.outcome ≡ (Ok tt)
     → let w = fresh_store (open_of nodes versions processes limit) in
     (bound : ℕ) → capacity node_words (length nodes) < bound → (rs : List Request)
     → All (λ r. Lawful r × (process_of r < processes)) rs → figure_events bound (memory_in w) rs ≤ limit

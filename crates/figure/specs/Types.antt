@@ -20,11 +20,7 @@ pub use Rattle.model.specs.declared.types.Ahead.{Ahead}
 pub use Rattle.model.specs.declared.types.Ahead.TheVariants.{Less, Equal, Past}
 pub use Rattle.model.specs.declared.types.Move.{Move}
 pub use Rattle.model.specs.declared.types.Move.TheVariants.{Refuse, Wait, Go, Note, Commit, Show, End}
-pub use Rattle.model.specs.declared.types.Permit.{Permit}
-pub use Rattle.model.specs.declared.types.Permit.TheVariants.{Granted, Denied}
 pub use Rattle.model.specs.declared.types.Finish.{Finish}
-pub use Rattle.model.specs.declared.types.Opening.{Opening}
-pub use Rattle.model.specs.declared.types.Starting.{Starting}
-pub use Rattle.model.specs.declared.types.StartResult.{StartResult}
-pub use Rattle.model.specs.declared.types.Stepping.{Stepping}
-pub use Rattle.model.specs.declared.types.Status.{Status}
+pub use Rattle.model.specs.declared.types.Progress.{Progress}
+pub use Rattle.model.specs.Types.{Permit, Opening, Starting, StartResult, Stepping, Status, idle_status, running_status}
+pub use Rattle.std.specs.Prelude.{Ok, Err, Option, Some}

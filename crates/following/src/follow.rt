@@ -1,4 +1,5 @@
 // Follow: a scan goes along level 0, and shows each node whose key is in its range. Nothing is written.
+// It is lent tables to read, and a `Memory` those to write: docs/TRACE.md names it.
 ghost use Rattle.std.specs.Prelude.{◌≡◌};
 ghost use Rattle.model.specs.Phases.{show_at, swept, follow_at, follow_of};
 ghost use Rattle.tables.specs.Room.{NodeRoom, VersionRoom, memory};
@@ -17,29 +18,20 @@ fn show_at(c: Cursor, node: u32, counts: Counts, nodes: &[u32], versions: &[u32]
     requires version_room { VersionRoom versions.now counts.versions }
     ensures { result ≡ show_at c node (memory nodes.now versions.now counts) }
 {
-    let i = newest_at(nodes, node);
-    let in_use = (1 <= i) & (i <= counts.versions);
-    if in_use {
-        let key = key_at(nodes, node);
-        let version = version_at(versions, i);
-        show(c, node, Item { key, version })
-    } else {
-        Move::Refuse
+    let newest = newest_at(nodes, node);
+    if !(1..=counts.versions).contains(&newest) {
+        return Move::Refuse;
     }
+    let key = key_at(nodes, node);
+    let version = version_at(versions, newest);
+    show(c, node, Item { key, version })
 }
 
 // A scan ends without an effect, whatever it was asked.
 fn end() -> Move
     ensures { (call : Call) → result ≡ swept call }
 {
-    Move::End(
-        Answer::Swept,
-        Version {
-            value: 0,
-            timestamp: 0,
-        },
-        0,
-    )
+    Move::End(Answer::Swept, Version::default(), 0)
 }
 
 // The node ahead: past the range, before it, or in it. A node before it was made since the walk.

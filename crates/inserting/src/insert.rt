@@ -1,86 +1,53 @@
 // Make and link: the steps of a put that write nodes and links.
-ghost use Rattle.std.specs.Prelude.{◌≡◌, List, ℕ};
-ghost use Rattle.model.specs.Layout.{next, with_next, with_node};
+ghost use Rattle.std.specs.Prelude.{◌≡◌, ◌≤◌, ◌+◌, List, ℕ};
 ghost use Rattle.model.specs.Phases.{moved, add_node, make_of, link_of};
-ghost use Rattle.tables.specs.Room.{NodeRoom, NodeSpare, VersionSpare, Lent, memory, nodes_in};
-ghost use Rattle.phases.specs.Ready.{Ready, leaves};
+ghost use Rattle.tables.specs.Room.{NodeRoom, VersionRoom, nodes_in};
+ghost use Rattle.versiontable.specs.Held.{held, SameTables};
+ghost use Rattle.phases.specs.Placed.{Placed};
+ghost use Rattle.phases.specs.Ready.{Ready};
 
-use model::types::{Answer, Call, Counts, Cursor, Key, Move, Phase, State};
-use phases::moves::{commit, go, keep};
-use phases::types::Transition;
-use tables::nodes::{next_at, nodes_full, set_next, write_node};
-use versiontable::versions::{versions_full, write_version};
+use model::types::{Answer, Call, Cursor, Move, Phase, State};
+use phases::moves::{commit, go};
+use tables::nodes::{next_at, set_next};
+use versiontable::memory::Memory;
 
-// A new node behind its predecessor at level 0.
-fn insert(nodes: &mut [u32], pred: u32, node: u32, key: Key, version: u32, top: u32)
-    requires node_room { NodeRoom nodes.old pred }
-    requires node_room_2 { NodeRoom nodes.old node }
-    ensures { nodes.new
-        ≡ with_next (with_node nodes.old node key version top (next nodes.old 0 pred)) 0 pred node }
-{
-    let next = next_at(nodes, 0, pred);
-    write_node(nodes, node, key, version, top, next);
-    set_next(nodes, 0, pred, node);
-}
-
-// The new node, with the call's version, behind the predecessor.
+// The new node, with the call's version, behind the predecessor at level 0, and its index.
 #[tactic(auto, unfolding(model::specs::Phases::add_node))]
-fn add_node(
-    call: Call,
-    c: Cursor,
-    counts: Counts,
-    nodes: &mut [u32],
-    versions: &mut [u32],
-) -> Counts
-    requires node_room { NodeRoom nodes.old c.pred }
-    requires node_spare { NodeSpare nodes.old counts.nodes }
-    requires version_spare { VersionSpare versions.old counts.versions }
-    ensures { memory nodes.new versions.new result
-        ≡ add_node call c (memory nodes.old versions.old counts) }
+fn add_node(call: Call, c: Cursor, memory: &mut Memory) -> u32
+    requires pred { c.pred ≤ memory.old.counts.nodes }
+    requires node_room { NodeRoom memory.old.nodes.now (memory.old.counts.nodes + 1) }
+    requires version_room { VersionRoom memory.old.versions.now (memory.old.counts.versions + 1) }
+    ensures index { result ≡ memory.old.counts.nodes + 1 }
+    ensures memory { held memory.new ≡ add_node call c (held memory.old) }
+    ensures tables { SameTables memory.old memory.new }
 {
-    let node = counts.nodes + 1;
-    let i = counts.versions + 1;
-    insert(nodes, c.pred, node, call.key, i, call.top);
-    write_version(versions, i, call.value, call.timestamp, 0);
-    Counts {
-        nodes: node,
-        versions: i,
-    }
+    let version = memory.add_version(call.value, call.timestamp, 0);
+    let next = memory.next(0, c.pred);
+    let node = memory.add_node(call.key, version, call.top, next);
+    memory.set_next(0, c.pred, node);
+    node
 }
 
 #[tactic(auto, unfolding(model::specs::Phases::make_of))]
-pub fn make(
-    call: Call,
-    c: Cursor,
-    counts: Counts,
-    nodes: &mut [u32],
-    versions: &mut [u32],
-) -> Transition
-    requires ready { Ready nodes.old counts.nodes c }
-    requires lent { Lent nodes.old versions.old counts }
-    ensures { leaves result nodes.new versions.new
-        ≡ make_of call c (memory nodes.old versions.old counts) }
+pub fn make(call: Call, c: Cursor, memory: &mut Memory) -> Move
+    requires { Placed c memory.old }
+    ensures moved { moved (held memory.new) result ≡ make_of call c (held memory.old) }
+    ensures tables { SameTables memory.old memory.new }
 {
-    if nodes_full(nodes, counts.nodes) {
-        return keep(c, Answer::KeysFull, counts);
+    if memory.nodes_full() {
+        return commit(c, c.made, Answer::KeysFull);
     }
-    if versions_full(versions, counts.versions) {
-        return keep(c, Answer::VersionsFull, counts);
+    if memory.versions_full() {
+        return commit(c, c.made, Answer::VersionsFull);
     }
     if State::TOP < call.top {
-        return Transition {
-            mv: Move::Refuse,
-            counts,
-        };
+        return Move::Refuse;
     }
-    let more = add_node(call, c, counts, nodes, versions);
-    Transition {
-        mv: commit(c, counts.nodes + 1, Answer::New),
-        counts: more,
-    }
+    let made = add_node(call, c, memory);
+    commit(c, made, Answer::New)
 }
 
-// The new node behind the predecessor at the cursor's level.
+// The new node behind the predecessor at the cursor's level. It is lent the node table alone.
 #[tactic(auto, unfolding(model::specs::Phases::add_link, model::specs::Phases::link_of))]
 pub fn link(c: Cursor, used: u32, nodes: &mut [u32]) -> Move
     requires { Ready nodes.old used c }
@@ -88,13 +55,11 @@ pub fn link(c: Cursor, used: u32, nodes: &mut [u32]) -> Move
         ≡ link_of c (nodes_in nodes.old used versions n) }
 {
     let made = c.made;
-    let in_use = (1 <= made) & (made <= used);
-    if in_use {
-        let next = next_at(nodes, c.level, c.pred);
-        set_next(nodes, c.level, made, next);
-        set_next(nodes, c.level, c.pred, made);
-        go(c, Phase::Release, c.level, c.pred)
-    } else {
-        Move::Refuse
+    if !(1..=used).contains(&made) {
+        return Move::Refuse;
     }
+    let next = next_at(nodes, c.level, c.pred);
+    set_next(nodes, c.level, made, next);
+    set_next(nodes, c.level, c.pred, made);
+    go(c, Phase::Release, c.level, c.pred)
 }

@@ -1,5 +1,6 @@
 -- One turn of the pass along a chain, under the inspection's own bound: places fall, so the bound need not fall with them.
 -- p and b are what the code read and found.
+use Rattle.model.specs.Types.{Inspecting, no_fault, fault_at}
 use Prim.Native.Nat.{ℕ, suc, ◌+◌, ◌≤◌, ◌<◌}
 use mathlib.Core.Bool.{Bool, true, false, not, ◌&&◌, ◌||◌}
 use mathlib.Core.Logic.{◌≢◌}
@@ -8,7 +9,6 @@ use native.Mathlib.Numerals.{add-one}
 use native.Mathlib.Omega.{arith}
 use lib.Dec.{T, eqb, leb, ltb, leb→le, eqb→eq}
 use borrow.Author.Tests.{eq-eqb, ne_eqb, le-leb, leb-false}
-use Rattle.model.specs.declared.types.Inspecting.{Inspecting}
 use Rattle.std.specs.Prelude.{if◌then◌else◌}
 use Rattle.model.specs.Layout.{Memory, timestamp, prev}
 use Rattle.model.specs.Inspection.{chain_falls}
@@ -44,22 +44,22 @@ module _ (m : Memory) (l x : ℕ) where
 
   -- what is left of the pass from version i on; 0 is behind the oldest
   abbrev pub left : ℕ → Inspecting
-  left i = if eqb i 0 then Inspecting.Sound else one_pass m l x (m.counts.versions + 1) i
+  left i = if eqb i 0 then no_fault else one_pass m l x (m.counts.versions + 1) i
 
-  pub pass_ends : (i : ℕ) → i ≡ 0 → left i ≡ Inspecting.Sound
+  pub pass_ends : (i : ℕ) → i ≡ 0 → left i ≡ no_fault
   pass_ends i z = simp (eq-eqb i 0 z)
 
   module _ (i : ℕ) (nz : i ≢ 0) (used : i ≤ m.counts.versions) (p : ℕ) (ep : p ≡ prev m.versions i) where
     -- the tests of a version in use, grouped as in the code: where none is before it, p is 0 and so smaller than i
     pass_turn : (fuel : ℕ) → one_pass m l x (suc fuel) i
-        ≡ (if version_fault m.versions i p then Inspecting.Fault l x else if eqb p 0 then Inspecting.Sound else one_pass m l x fuel p)
+        ≡ (if version_fault m.versions i p then fault_at l x else if eqb p 0 then no_fault else one_pass m l x fuel p)
     unfolding one_pass
     pass_turn fuel = simp (le-leb 1 i (omega arith), le-leb i m.counts.versions used, ← ep)
         (grouped (leb i p) (eqb p 0) (ltb (timestamp m.versions i) (timestamp m.versions p)) _ _ _
         λ r z. let a = leb→le i p r in let c = eqb→eq p 0 z in omega arith)
 
     module _ (b : Bool) (eb : b ≡ version_fault m.versions i p) where
-      pub pass_stops : b ≡ true → left i ≡ Inspecting.Fault l x
+      pub pass_stops : b ≡ true → left i ≡ fault_at l x
       pass_stops h = simp (ne_eqb i 0 nz) (rw add-one (pass_turn m.counts.versions ∙ simp (← eb, h)))
 
       pub pass_goes : b ≡ false → (p < i) × (left i ≡ left p)

@@ -1,12 +1,12 @@
 -- One turn of the walk of a level, as the definition has it: its tests in the groups of the code, under a bound that is just enough
 -- from the node reached. y, n and d are what the code found.
+use Rattle.model.specs.Types.{Inspecting, no_fault, fault_at}
 use Prim.Native.Nat.{ℕ, suc, ◌+◌, ◌-◌, ◌≤◌, ◌<◌}
 use mathlib.Core.Bool.{Bool, true, false, not, ◌||◌}
 use mathlib.Core.Path.{◌≡◌, refl, sym, ◌∙◌}
 use native.Mathlib.Omega.{arith}
 use lib.Dec.{eqb, ltb, leb}
 use borrow.Author.Tests.{eq-eqb, ne_eqb, lt-ltb, le-ltb, leb-false, ltb-false}
-use Rattle.model.specs.declared.types.Inspecting.{Inspecting}
 use Rattle.std.specs.Prelude.{if◌then◌else◌}
 use Rattle.model.specs.Layout.{Memory, top_level, levels, key, top, next, lock}
 use Rattle.model.specs.Inspection.{versions_sound, reaching, level_from, then_inspect, levels_from}
@@ -34,10 +34,10 @@ module _ (m : Memory) (l seen x : ℕ) where
   to = next m.nodes l x
 
   abbrev last : Inspecting
-  last = if ltb seen (reaching m.nodes l m.counts.nodes) then Inspecting.Fault l x else Inspecting.Sound
+  last = if ltb seen (reaching m.nodes l m.counts.nodes) then fault_at l x else no_fault
 
-  level_turn : rest ≡ (if wrong m l x then Inspecting.Fault l x else if eqb to 0 then last
-      else if link_fault m l x to then Inspecting.Fault l x else level_from m l (ahead m l x) (seen + 1) to)
+  level_turn : rest ≡ (if wrong m l x then fault_at l x else if eqb to 0 then last
+      else if link_fault m l x to then fault_at l x else level_from m l (ahead m l x) (seen + 1) to)
   unfolding level_from
   level_turn =
       stops (not (eqb (lock m.nodes l x) 0)) (not (versions_sound m l x)) (eqb to 0)
@@ -49,19 +49,19 @@ module _ (m : Memory) (l seen x : ℕ) where
     pub nears : ahead m l y < ahead m l x
     pub goes : rest ≡ level_from m l (suc (ahead m l y)) (seen + 1) y
 
-  pub node_stops : wrong m l x ≡ true → rest ≡ Inspecting.Fault l x
+  pub node_stops : wrong m l x ≡ true → rest ≡ fault_at l x
   node_stops h = level_turn ∙ simp h
 
   module _ (r : wrong m l x ≡ false) (y : ℕ) (ey : y ≡ to) where
     module _ (z : y ≡ 0) (n : ℕ) (en : n ≡ reaching m.nodes l m.counts.nodes) where
-      pub level_short : seen < n → rest ≡ Inspecting.Fault l x
+      pub level_short : seen < n → rest ≡ fault_at l x
       level_short q = level_turn ∙ simp (r, ← ey, eq-eqb _ _ z, ← en, lt-ltb _ _ q)
 
-      pub level_whole : n ≤ seen → rest ≡ Inspecting.Sound
+      pub level_whole : n ≤ seen → rest ≡ no_fault
       level_whole q = level_turn ∙ simp (r, ← ey, eq-eqb _ _ z, ← en, le-ltb _ _ q)
 
     module _ (nz : y ≡ 0 → ⊥) (d : Bool) (ed : d ≡ link_fault m l x y) where
-      pub link_stops : d ≡ true → rest ≡ Inspecting.Fault l x
+      pub link_stops : d ≡ true → rest ≡ fault_at l x
       link_stops g = level_turn ∙ simp (r, ← ey, ne_eqb _ _ nz, ← ed, g)
 
       pub level_goes : d ≡ false → Onward y
@@ -87,12 +87,12 @@ module _ (m : Memory) (l : ℕ) (h : l ≤ top_level) where
   unfolding levels_from
   first = let n : levels - l ≡ suc (levels - (l + 1)) = omega arith in rw n
 
-  pub levels_stop : (x : ℕ) → this ≡ Inspecting.Fault l x → levels_from m (levels - l) l ≡ Inspecting.Fault l x
+  pub levels_stop : (x : ℕ) → this ≡ fault_at l x → levels_from m (levels - l) l ≡ fault_at l x
   levels_stop x e = first ∙ simp e
 
-  pub levels_go : this ≡ Inspecting.Sound → levels_from m (levels - l) l ≡ levels_from m (levels - (l + 1)) (l + 1)
+  pub levels_go : this ≡ no_fault → levels_from m (levels - l) l ≡ levels_from m (levels - (l + 1)) (l + 1)
   levels_go e = first ∙ simp e
 
-pub levels_end : (m : Memory) (l : ℕ) → l ≡ levels → levels_from m (levels - l) l ≡ Inspecting.Sound
+pub levels_end : (m : Memory) (l : ℕ) → l ≡ levels → levels_from m (levels - l) l ≡ no_fault
 unfolding levels_from
 levels_end m l e = rw e

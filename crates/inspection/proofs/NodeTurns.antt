@@ -1,5 +1,6 @@
 -- The tests of the node reached, in document 01's order and in the code's: a fault of the node, else what the one pass along its chain
 -- answers. Its versions are looked at on level 0 alone.
+use Rattle.model.specs.Types.{no_fault, fault_at}
 use Prim.Native.Nat.{ℕ, zero, suc, ◌≤◌}
 use mathlib.Core.Bool.{Bool, true, false, not, ◌&&◌, ◌||◌}
 use mathlib.Core.Path.{◌≡◌, refl, sym, ◌∙◌}
@@ -7,7 +8,6 @@ use native.Mathlib.Numerals.{add-one}
 use native.Mathlib.Omega.{arith}
 use lib.Dec.{T, eqb, leb, leb→le}
 use borrow.Author.Tests.{ne_eqb}
-use Rattle.model.specs.declared.types.Inspecting.{Inspecting}
 use Rattle.std.specs.Prelude.{if◌then◌else◌}
 use Rattle.model.specs.Layout.{Memory, newest, lock}
 use Rattle.model.specs.Phases.{used_version}
@@ -34,8 +34,8 @@ answers false false chain fault sound pass f g = simp (f refl)
 answers false true true fault sound pass f g = sym (g refl)
 answers false true false fault sound pass f g = sym (g refl)
 
-node_answers : (m : Memory) (l x : ℕ) → (if wrong m l x then Inspecting.Fault l x else Inspecting.Sound)
-    ≡ (if node_fault m l x then Inspecting.Fault l x else left m l x (chain_start m.nodes l x))
+node_answers : (m : Memory) (l x : ℕ) → (if wrong m l x then fault_at l x else no_fault)
+    ≡ (if node_fault m l x then fault_at l x else left m l x (chain_start m.nodes l x))
 unfolding versions_sound
 node_answers m zero zero = refl
 node_answers m zero (suc x) =
@@ -52,11 +52,11 @@ starts true true n k h f = f tt
 starts true false n k h f = absurd (let z : ◌≡◌ {A = ℕ} 0 1 = cc in omega arith)
 starts false used n k h f = omega arith
 
-tells_wrong : (l x : ℕ) (b : Bool) → (if b then Inspecting.Fault l x else Inspecting.Sound) ≡ Inspecting.Fault l x → b ≡ true
+tells_wrong : (l x : ℕ) (b : Bool) → (if b then fault_at l x else no_fault) ≡ fault_at l x → b ≡ true
 tells_wrong l x true e = refl
 tells_wrong l x false e = absurd (let z : ◌≡◌ {A = ℕ} 0 1 = cc in omega arith)
 
-tells_right : (l x : ℕ) (b : Bool) → (if b then Inspecting.Fault l x else Inspecting.Sound) ≡ Inspecting.Sound → b ≡ false
+tells_right : (l x : ℕ) (b : Bool) → (if b then fault_at l x else no_fault) ≡ no_fault → b ≡ false
 tells_right l x true e = absurd (let z : ◌≡◌ {A = ℕ} 0 1 = cc in omega arith)
 tells_right l x false e = refl
 
@@ -72,8 +72,8 @@ module _ (m : Memory) (l x : ℕ) where
         starts (has_versions l x) (used_version m i) i m.counts.versions e.1
         λ u. leb→le i m.counts.versions (and→ (leb 1 i) (leb i m.counts.versions) u).1
 
-    pub chain_wrong : left m l x (chain_start m.nodes l x) ≡ Inspecting.Fault l x → wrong m l x ≡ true
+    pub chain_wrong : left m l x (chain_start m.nodes l x) ≡ fault_at l x → wrong m l x ≡ true
     chain_wrong e = tells_wrong l x (wrong m l x) (node_answers m l x ∙ simp h e)
 
-    pub chain_right : left m l x (chain_start m.nodes l x) ≡ Inspecting.Sound → wrong m l x ≡ false
+    pub chain_right : left m l x (chain_start m.nodes l x) ≡ no_fault → wrong m l x ≡ false
     chain_right e = tells_right l x (wrong m l x) (node_answers m l x ∙ simp h e)

@@ -1,12 +1,12 @@
 -- P2's law: along a chain one pass answers what the two passes of document 01 answer, on any memory, from any version on and under
 -- any bound. It may stop at another version than they do.
+use Rattle.model.specs.Types.{no_fault, fault_at}
 use Prim.Native.Nat.{ℕ, zero, suc, ◌+◌, ◌<◌}
 use mathlib.Core.Bool.{Bool, true, false, not, ◌&&◌}
 use mathlib.Core.Logic.{◌≢◌}
 use mathlib.Core.Path.{◌≡◌, refl, sym, ◌∙◌}
 use lib.Dec.{eqb, ltb, leb}
 use borrow.Author.Tests.{ne_eqb, le-leb, lt-leb, lt-ltb}
-use Rattle.model.specs.declared.types.Inspecting.{Inspecting}
 use Rattle.std.specs.Prelude.{if◌then◌else◌}
 use Rattle.model.specs.Layout.{Memory, newest, timestamp, prev}
 use Rattle.model.specs.Phases.{used_version}
@@ -42,24 +42,24 @@ module _ (m : Memory) (l x : ℕ) where
   one_pass_lem (suc fuel) i =
       let p = prev m.versions i in
       by_tests (not (used_version m i)) (leb i p) (eqb p 0) (ltb (timestamp m.versions i) (timestamp m.versions p))
-      (chain_falls m fuel p) (chain_ages m fuel p) (Inspecting.Fault l x) Inspecting.Sound (one_pass m l x fuel p) (one_pass_lem fuel p)
+      (chain_falls m fuel p) (chain_ages m fuel p) (fault_at l x) no_fault (one_pass m l x fuel p) (one_pass_lem fuel p)
 
   -- From a version on whose timestamp is less than the one before it, the one pass stops at once. The two passes first go on for places,
   -- and may stop at one further back. Whatever lies there, both answer this level and this node.
   pub timestamp_first : (fuel i : ℕ) → InUse m i → prev m.versions i < i → prev m.versions i ≢ 0
       → timestamp m.versions i < timestamp m.versions (prev m.versions i)
-      → (one_pass m l x (suc fuel) i ≡ Inspecting.Fault l x) × (two_passes m l x (suc fuel) i ≡ Inspecting.Fault l x)
+      → (one_pass m l x (suc fuel) i ≡ fault_at l x) × (two_passes m l x (suc fuel) i ≡ fault_at l x)
   unfolding one_pass
   timestamp_first fuel i used falls nz younger =
-      let e : one_pass m l x (suc fuel) i ≡ Inspecting.Fault l x =
+      let e : one_pass m l x (suc fuel) i ≡ fault_at l x =
       simp (le-leb _ _ used.0, le-leb _ _ used.1, lt-leb _ _ falls, ne_eqb _ _ nz, lt-ltb _ _ younger) in
       (e, sym (one_pass_lem (suc fuel) i) ∙ e)
 
   -- so it finds the chain of a node sound just where the inspection of document 01 does
   pub one_pass_sound : one_pass m l x (m.counts.versions + 1) (newest m.nodes x)
-      ≡ (if chain_sound m x then Inspecting.Sound else Inspecting.Fault l x)
+      ≡ (if chain_sound m x then no_fault else fault_at l x)
   unfolding two_passes chain_sound
   one_pass_sound =
       let i = newest m.nodes x in
       let fuel = m.counts.versions + 1 in
-      one_pass_lem fuel i ∙ both (chain_falls m fuel i) (chain_ages m fuel i) (Inspecting.Fault l x) Inspecting.Sound
+      one_pass_lem fuel i ∙ both (chain_falls m fuel i) (chain_ages m fuel i) (fault_at l x) no_fault

@@ -1,12 +1,12 @@
 -- Fewer nodes reach a level than the one below it, by those whose top that is; and one node more is counted at its top.
-use Prim.Native.Nat.{ℕ, zero, suc, ◌+◌, ◌≤◌, ◌<◌}
+use Prim.Native.Nat.{ℕ, zero, suc, ◌+◌, ◌-◌, ◌≤◌, ◌<◌}
 use mathlib.Core.List.{List}
-use mathlib.Core.Logic.{◌≢◌}
-use mathlib.Core.Path.{◌≡◌, refl, sym}
+use mathlib.Core.Logic.{◌≢◌, ◌⊎◌, inl, inr}
+use mathlib.Core.Path.{◌≡◌, refl, sym, ◌∙◌, subst}
 use native.Mathlib.Numerals.{add-one}
 use native.Mathlib.Omega.{arith}
 use lib.Dec.{eqb, leb}
-use lib.ListN.{length, get_or, set, replicate, get_or-replicate}
+use lib.ListN.{length, length-set, get_or, set, replicate, get_or-replicate}
 use lib.Seq.{get_or-set_same, get_or-set_other}
 use borrow.Author.Tests.{eq-eqb, ne_eqb, le-leb, lt-leb}
 use Rattle.std.specs.Prelude.{if◌then◌else◌}
@@ -49,7 +49,7 @@ module _ (nodes counts : List ℕ) (n t : ℕ) (e : t ≡ top nodes (n + 1)) (c 
   other : (l : ℕ) → t ≢ l → top_count nodes l (n + 1) ≡ top_count nodes l n
   other l ne = omega (arith, one_more l, if_no {A = ℕ} (eqb t l) 1 0 (ne→neqb t l ne))
 
-  pub counts_more : length counts ≡ levels → t < top_level → TopCounts nodes (n + 1) (set counts t (get_or counts t 0 + 1))
+  counts_more : length counts ≡ levels → t < top_level → TopCounts nodes (n + 1) (set counts t (get_or counts t 0 + 1))
   counts_more len low l h = by_eq t l here there
     where
       more : List ℕ
@@ -63,5 +63,17 @@ module _ (nodes counts : List ℕ) (n t : ℕ) (e : t ≡ top nodes (n + 1)) (c 
       there : t ≢ l → get_or more l 0 ≡ top_count nodes l (n + 1)
       there ne = omega (arith, get_or-set_other counts t l (get_or counts t 0 + 1) 0 (λ e. ne (sym e)), c l h, other l ne)
 
-  pub counts_same : top_level ≤ t → TopCounts nodes (n + 1) counts
+  counts_same : top_level ≤ t → TopCounts nodes (n + 1) counts
   counts_same high l h = omega (arith, c l h, other l (λ e. omega arith))
+
+-- node x is counted at its top t, where a level lies above it
+pub counts_next : (nodes counts next : List ℕ) (x t : ℕ) → 1 ≤ x → t ≡ top nodes x → length counts ≡ levels → TopCounts nodes (x - 1) counts
+    → ((t < top_level) × (next ≡ set counts t (get_or counts t 0 + 1))) ⊎ ((top_level ≤ t) × (next ≡ counts))
+    → (length next ≡ levels) × TopCounts nodes x next
+counts_next nodes counts next x t first e len c (inl b) =
+    let this : x - 1 + 1 ≡ x = omega arith in
+    let more = counts_more nodes counts (x - 1) t (rw this e) c len b.0 in
+    rw b.1 (length-set counts t _ ∙ len, subst (λ n. TopCounts nodes n (set counts t (get_or counts t 0 + 1))) this more)
+counts_next nodes counts next x t first e len c (inr b) =
+    let this : x - 1 + 1 ≡ x = omega arith in
+    rw b.1 (len, subst (λ n. TopCounts nodes n counts) this (counts_same nodes counts (x - 1) t (rw this e) c b.0))

@@ -11,13 +11,10 @@ pub fn count_tops(nodes: &[u32], used: u32) -> [u32; State::LEVELS]
     ensures { TopCounts nodes.now used result }
 {
     let mut counts = [0; State::LEVELS];
-    let mut x = 0;
-    while x < used {
-        x = x + 1;
+    for x in 1..=used {
         let top = top_at(nodes, x);
         if top < State::TOP {
-            let level = top as usize;
-            counts[level] = counts[level] + 1;
+            counts[top as usize] += 1;
         }
     }
     counts

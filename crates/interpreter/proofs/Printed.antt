@@ -11,8 +11,9 @@ use Rattle.model.specs.declared.types.Refusal.{Refusal}
 use Rattle.model.specs.declared.types.Refusal.TheVariants.{UnknownCommand, CutShort}
 use Rattle.std.specs.Prelude.{if◌then◌else◌}
 use Rattle.decoder.specs.declared.types.Command.{Command}
-use Rattle.decoder.specs.declared.types.Decoded.{Decoded}
-use Rattle.decoder.specs.declared.types.Decoded.TheVariants.{Whole, Unknown, Short, End}
+use Rattle.std.specs.Prelude.{Ok, Err}
+use Rattle.decoder.specs.Types.{Decoded}
+use Rattle.decoder.specs.declared.types.DecodeError.TheVariants.{Unknown, Short, End}
 use Rattle.decoder.specs.Commands.{command_from}
 use Rattle.decoder.proofs.Pieces.{whole_within}
 use Rattle.ending.specs.Rest.{rest_by, rest_of}
@@ -81,14 +82,14 @@ module _ (bytes more : List ℕ) where
     }
 
     module _ (fits : leb (p.page.next + room) (length p.page.bytes) ≡ true) where
-      command : (c : Command) (n : ℕ) → command_from (drop p.read bytes) ≡ Whole c n → Keeps p (played p c (p.read + n))
+      command : (c : Command) (n : ℕ) → command_from (drop p.read bytes) ≡ Ok (c, n) → Keeps p (played p c (p.read + n))
       unfolding text
       command c n e =
           let d = perform_of p.session c in
           let behind = drop-append-le n (drop p.read bytes) more (whole_within _ c n e).1
           ∙ ap (λ (l : List ℕ). l ++ more) (drop-drop n p.read bytes) in
           prints (played p c (p.read + n)) d.line fits refl
-          (ap text (sheet_laws.command p.session _ c n (still _ more (Whole c n) refl e))
+          (ap text (sheet_laws.command p.session _ c n (still _ more (Ok (c, n)) refl e))
           ∙ ap (λ (l : List ℕ). line_of d.line ++ text (lines_from d.session (script_of l))) behind)
 
       ending : (r : Refusal) → lines_from p.session (script_of (drop p.read bytes ++ more)) ≡ Refused r ∷ []
@@ -115,13 +116,13 @@ module _ (bytes more : List ℕ) (ended : Bool) (seen : ended ≡ true → more 
     by_decoded : (d : Decoded) → command_from (drop p.read bytes) ≡ d → (t : Bool) → ended ≡ t
         → Keeps bytes more p (play_next p (rest_by t d))
     unfolding rest_by performed_all
-    by_decoded (Whole c n) e t f = command bytes more p fits c n e
-    by_decoded Unknown e t f = ending bytes more p fits UnknownCommand (sheet_laws.unknown p.session _ more e)
-    by_decoded Short e true f =
+    by_decoded (Ok (c, n)) e t f = command bytes more p fits c n e
+    by_decoded (Err Unknown) e t f = ending bytes more p fits UnknownCommand (sheet_laws.unknown p.session _ more e)
+    by_decoded (Err Short) e true f =
         ending bytes more p fits CutShort (sheet_laws.cut_short p.session _ (ap command_from (all_seen p.read f) ∙ e))
-    by_decoded Short e false f = stays bytes more p Needs.Bytes refl
-    by_decoded End e true f = nothing bytes more p fits (lines_by _ End (ap command_from (all_seen p.read f) ∙ e) p.session)
-    by_decoded End e false f = stays bytes more p Needs.Bytes refl
+    by_decoded (Err Short) e false f = stays bytes more p Needs.Bytes refl
+    by_decoded (Err End) e true f = nothing bytes more p fits (lines_by _ (Err End) (ap command_from (all_seen p.read f) ∙ e) p.session)
+    by_decoded (Err End) e false f = stays bytes more p Needs.Bytes refl
 
   one_keeps : (p : Playing) → Keeps bytes more p (play_one bytes ended p)
   unfolding play_one rest_of

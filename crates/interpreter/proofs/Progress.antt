@@ -9,8 +9,9 @@ use lib.ListN.{length, drop, length-drop}
 use borrow.Author.Tests.{leb-false}
 use Rattle.model.proofs.Tests.{by_eq}
 use Rattle.decoder.specs.declared.types.Command.{Command}
-use Rattle.decoder.specs.declared.types.Decoded.{Decoded}
-use Rattle.decoder.specs.declared.types.Decoded.TheVariants.{Whole, Unknown, Short, End}
+use Rattle.std.specs.Prelude.{Ok, Err}
+use Rattle.decoder.specs.Types.{Decoded}
+use Rattle.decoder.specs.declared.types.DecodeError.TheVariants.{Unknown, Short, End}
 use Rattle.decoder.specs.Commands.{longest_command, command_from}
 use Rattle.decoder.proofs.Pieces.{whole_within, short_below, end_empty}
 use Rattle.ending.specs.Rest.{rest_by, rest_of}
@@ -35,7 +36,7 @@ module _ (bytes : List ℕ) (ended : Bool) where
     pub stands : Stands tries p.read q.needs q
 
   module _ (p : Playing) where
-    command : (c : Command) (n : ℕ) → command_from (drop p.read bytes) ≡ Whole c n → Advances 1 p (played p c (p.read + n))
+    command : (c : Command) (n : ℕ) → command_from (drop p.read bytes) ≡ Ok (c, n) → Advances 1 p (played p c (p.read + n))
     command c n e =
         let w = whole_within _ c n e in
         let l = length-drop p.read bytes in
@@ -49,12 +50,12 @@ module _ (bytes : List ℕ) (ended : Bool) where
     by_decoded : (d : Decoded) → command_from (drop p.read bytes) ≡ d → (t : Bool) → ended ≡ t
         → Advances 1 p (play_next p (rest_by t d))
     unfolding rest_by
-    by_decoded (Whole c n) e t f = command c n e
-    by_decoded Unknown e t f = record { read = omega arith; within = λ h. h; idle = λ z o. cc; stands = tt }
-    by_decoded Short e true f = record { read = omega arith; within = λ h. h; idle = λ z o. cc; stands = tt }
-    by_decoded Short e false f = record { read = omega arith; within = λ h. h; idle = λ z o. refl; stands = (f, short_below _ e) }
-    by_decoded End e true f = record { read = omega arith; within = λ h. h; idle = λ z o. refl; stands = tt }
-    by_decoded End e false f = record {
+    by_decoded (Ok (c, n)) e t f = command c n e
+    by_decoded (Err Unknown) e t f = record { read = omega arith; within = λ h. h; idle = λ z o. cc; stands = tt }
+    by_decoded (Err Short) e true f = record { read = omega arith; within = λ h. h; idle = λ z o. cc; stands = tt }
+    by_decoded (Err Short) e false f = record { read = omega arith; within = λ h. h; idle = λ z o. refl; stands = (f, short_below _ e) }
+    by_decoded (Err End) e true f = record { read = omega arith; within = λ h. h; idle = λ z o. refl; stands = tt }
+    by_decoded (Err End) e false f = record {
       read = omega arith;
       within = λ h. h;
       idle = λ z o. refl;
@@ -107,7 +108,7 @@ module _ (bytes : List ℕ) (ended : Bool) where
 
   advances : (n : ℕ) (p : Playing) → Advances (suc n) p (play_for (suc n) bytes ended p)
   unfolding play_for
-  advances zero p = subst (Advances 1 p) (last bytes ended p (play_one bytes ended p) refl 0 refl) (one_advances p)
+  advances zero p = subst (Advances 1 p) (last bytes ended p (play_one bytes ended p) refl 1 refl) (one_advances p)
   advances (suc n) p = by (goes_on q.needs) refl (advances n q)
     where
       q : Playing

@@ -8,8 +8,9 @@ use lib.ListN.{length, drop, length-drop}
 use lib.Seq.{drop-append-le}
 use Rattle.model.specs.declared.types.Refusal.TheVariants.{UnknownCommand, CutShort}
 use Rattle.decoder.specs.declared.types.Command.{Command}
-use Rattle.decoder.specs.declared.types.Decoded.{Decoded}
-use Rattle.decoder.specs.declared.types.Decoded.TheVariants.{Whole, Unknown, Short, End}
+use Rattle.std.specs.Prelude.{Ok, Err}
+use Rattle.decoder.specs.Types.{Decoded}
+use Rattle.decoder.specs.declared.types.DecodeError.TheVariants.{Unknown, Short, End}
 use Rattle.decoder.specs.Commands.{command_from}
 use Rattle.decoder.proofs.Pieces.{settled, stays, whole_within, end_empty}
 use Rattle.printer.specs.declared.types.Line.{Line}
@@ -21,13 +22,13 @@ use Rattle.interpreter.specs.Sheet.{Complete, SheetLaws}
 
 -- ---- enough commands
 
-by_alike : (d : Decoded) (a b : ℕ → Script) → ((c : Command) (n : ℕ) → d ≡ Whole c n → a n ≡ b n) → script_by d a ≡ script_by d b
-by_alike (Whole c n) a b h = ap (first c) (h c n refl)
-by_alike Unknown a b h = refl
-by_alike Short a b h = refl
-by_alike End a b h = refl
+by_alike : (d : Decoded) (a b : ℕ → Script) → ((c : Command) (n : ℕ) → d ≡ Ok (c, n) → a n ≡ b n) → script_by d a ≡ script_by d b
+by_alike (Ok (c, n)) a b h = ap (first c) (h c n refl)
+by_alike (Err Unknown) a b h = refl
+by_alike (Err Short) a b h = refl
+by_alike (Err End) a b h = refl
 
-shorter : (bytes : List ℕ) (c : Command) (n m : ℕ) → command_from bytes ≡ Whole c n → length bytes ≤ suc m
+shorter : (bytes : List ℕ) (c : Command) (n m : ℕ) → command_from bytes ≡ Ok (c, n) → length bytes ≤ suc m
     → length (drop n bytes) ≤ m
 shorter bytes c n m e h = let w = whole_within bytes c n e in omega (arith, length-drop n bytes, w.0, w.1, h)
 
@@ -73,21 +74,21 @@ module _ (bytes front : List ℕ) where
       → Joins front bytes
   ended d l e h none = let z = ap (λ (s : Script). s.ending) (sym h ∙ sym (begins front d e)) ∙ none in cc
 
-  command_first : (c : Command) (n : ℕ) → command_from front ≡ Whole c n → Joins (drop n front) bytes → Joins front bytes
+  command_first : (c : Command) (n : ℕ) → command_from front ≡ Ok (c, n) → Joins (drop n front) bytes → Joins front bytes
   command_first c n e h none =
-      let first_of = begins front (Whole c n) e in
-      begins (front ++ bytes) (Whole c n) (still front bytes (Whole c n) refl e)
+      let first_of = begins front (Ok (c, n)) e in
+      begins (front ++ bytes) (Ok (c, n)) (still front bytes (Ok (c, n)) refl e)
       ∙ ap (λ (l : List ℕ). first c (script_of l)) (drop-append-le n front bytes (whole_within front c n e).1)
       ∙ ap (first c) (h (ap (λ (s : Script). s.ending) (sym first_of) ∙ none))
       ∙ ap (λ (s : Script). joined s (script_of bytes)) (sym first_of)
 
   by_first : (d : Decoded) → command_from front ≡ d
-      → ((c : Command) (n : ℕ) → command_from front ≡ Whole c n → Joins (drop n front) bytes) → Joins front bytes
+      → ((c : Command) (n : ℕ) → command_from front ≡ Ok (c, n) → Joins (drop n front) bytes) → Joins front bytes
   unfolding script_of script_for
-  by_first (Whole c n) e h = command_first c n e (h c n e)
-  by_first Unknown e h = ended Unknown (Refused UnknownCommand) e refl
-  by_first Short e h = ended Short (Refused CutShort) e refl
-  by_first End e h = λ none. rw (end_empty front e) refl
+  by_first (Ok (c, n)) e h = command_first c n e (h c n e)
+  by_first (Err Unknown) e h = ended (Err Unknown) (Refused UnknownCommand) e refl
+  by_first (Err Short) e h = ended (Err Short) (Refused CutShort) e refl
+  by_first (Err End) e h = λ none. rw (end_empty front e) refl
 
 joins : (bytes : List ℕ) (m : ℕ) (front : List ℕ) → length front ≤ m → Joins front bytes
 joins bytes zero front h = by_first bytes front (command_from front) refl λ c n e.
@@ -109,11 +110,11 @@ ends_with front bytes l whole e =
 pub sheet_laws : SheetLaws
 unfolding performed_all sheet_of script_of script_for
 sheet_laws = record {
-  command = λ w bytes c n e. lines_by bytes (Whole c n) e w;
+  command = λ w bytes c n e. lines_by bytes (Ok (c, n)) e w;
   empty = refl;
-  unknown = λ w bytes more e. lines_by (bytes ++ more) Unknown (still bytes more Unknown refl e) w;
-  cut_short = λ w bytes e. lines_by bytes Short e w;
+  unknown = λ w bytes more e. lines_by (bytes ++ more) (Err Unknown) (still bytes more (Err Unknown) refl e) w;
+  cut_short = λ w bytes e. lines_by bytes (Err Short) e w;
   unknown_ends = λ front bytes more whole e.
-      ends_with front (bytes ++ more) _ whole (begins (bytes ++ more) Unknown (still bytes more Unknown refl e));
-  cut_short_ends = λ front bytes whole e. ends_with front bytes _ whole (begins bytes Short e);
+      ends_with front (bytes ++ more) _ whole (begins (bytes ++ more) (Err Unknown) (still bytes more (Err Unknown) refl e));
+  cut_short_ends = λ front bytes whole e. ends_with front bytes _ whole (begins bytes (Err Short) e);
 }

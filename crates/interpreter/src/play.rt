@@ -1,6 +1,6 @@
 // Commands one after another.
 ghost use Rattle.std.specs.Prelude.{ℕ, ◌≤◌, List, ◌≡◌, length};
-ghost use Rattle.interpreter.specs.Playing.{playing, Within, played, ended_by, goes_on, play_one, play_of};
+ghost use Rattle.interpreter.specs.Playing.{playing, Within, played, ended_by, play_one, play_of};
 
 use crate::types::{Needs, Played};
 use decoder::types::Command;
@@ -10,19 +10,6 @@ use executor::perform::perform;
 use model::types::Refusal;
 use printer::print::has_room;
 use printer::types::Line;
-
-// A run that stands where it stood.
-fn stay(p: Played, needs: Needs) -> Played
-    ensures { result ≡ record { state = p.state; read = p.read; next = p.next; needs = needs } }
-{
-    let state = p.state;
-    Played {
-        state,
-        read: p.read,
-        next: p.next,
-        needs,
-    }
-}
 
 // A whole command: it is performed and its line printed, and the next one stands at `read`.
 fn play_command(
@@ -34,17 +21,14 @@ fn play_command(
     tally: &mut [u32],
     out: &mut [u8],
 ) -> Played
-    ensures out_after { playing result nodes.new versions.new tally.new out.new
+    ensures plays { playing result nodes.new versions.new tally.new out.new
         ≡ played (playing p nodes.old versions.old tally.old out.old) command read }
     ensures next_in_bounds { p.next ≤ length out.old → result.next ≤ length out.old }
 {
-    let state = p.state;
-    let done = perform(state, command, nodes, versions, tally);
-    let line = done.line;
-    let after = done.state;
-    let next = line.print(out, p.next);
+    let done = perform(p.state, command, nodes, versions, tally);
+    let next = done.line.print(out, p.next);
     Played {
-        state: after,
+        state: done.state,
         read,
         next,
         needs: Needs::Nothing,
@@ -53,18 +37,15 @@ fn play_command(
 
 // The run ends with this refusal as its last line.
 fn end(p: Played, refusal: Refusal, out: &mut [u8]) -> Played
-    ensures by_index { (nodes versions tally : List ℕ)
+    ensures ends { (nodes versions tally : List ℕ)
         → playing result nodes versions tally out.new ≡ ended_by (playing p nodes versions tally out.old) refusal }
     ensures next_in_bounds { p.next ≤ length out.old → result.next ≤ length out.old }
 {
-    let state = p.state;
-    let line = Line::Refused(refusal);
-    let next = line.print(out, p.next);
+    let next = Line::Refused(refusal).print(out, p.next);
     Played {
-        state,
-        read: p.read,
         next,
         needs: Needs::Over,
+        ..p
     }
 }
 
@@ -77,34 +58,31 @@ fn play_one(
     tally: &mut [u32],
     out: &mut [u8],
 ) -> Played
-    ensures out_after { playing result nodes.new versions.new tally.new out.new
+    ensures plays { playing result nodes.new versions.new tally.new out.new
         ≡ play_one bytes.now ended
         (playing p nodes.old versions.old tally.old out.old) }
     ensures within { Within p bytes.now out.old → Within result bytes.now out.old }
 {
     if !has_room(out, p.next) {
-        return stay(p, Needs::Page);
+        return Played {
+            needs: Needs::Page,
+            ..p
+        };
     }
-    let found = rest(bytes, p.read, ended);
-    match found {
+    match rest(bytes, p.read, ended) {
         Rest::Next(command, count) => {
             let read = p.read + count;
             play_command(p, command, read, nodes, versions, tally, out)
         }
-        Rest::More => stay(p, Needs::Bytes),
-        Rest::Over => stay(p, Needs::Over),
+        Rest::More => Played {
+            needs: Needs::Bytes,
+            ..p
+        },
+        Rest::Over => Played {
+            needs: Needs::Over,
+            ..p
+        },
         Rest::Ends(refusal) => end(p, refusal, out),
-    }
-}
-
-fn goes_on(needs: Needs) -> bool
-    ensures { result ≡ goes_on needs }
-{
-    match needs {
-        Needs::Nothing => true,
-        Needs::Page => false,
-        Needs::Bytes => false,
-        Needs::Over => false,
     }
 }
 
@@ -119,20 +97,17 @@ pub fn play(
     tally: &mut [u32],
     out: &mut [u8],
 ) -> Played
-    ensures out_after { playing result nodes.new versions.new tally.new out.new
+    ensures plays { playing result nodes.new versions.new tally.new out.new
         ≡ play_of bytes.now ended
         (playing p nodes.old versions.old tally.old out.old) }
     ensures within { Within p bytes.now out.old → Within result bytes.now out.old }
 {
     let mut at = p;
-    let mut left = bytes.len();
-    while 0 < left {
+    for _ in 0..=bytes.len() {
         at = play_one(at, bytes, ended, nodes, versions, tally, out);
-        let needs = at.needs;
-        if !goes_on(needs) {
-            return at;
+        if at.needs != Needs::Nothing {
+            break;
         }
-        left -= 1;
     }
-    play_one(at, bytes, ended, nodes, versions, tally, out)
+    at
 }

@@ -1,13 +1,13 @@
 -- Processes known one after another.
-use Prim.Native.Nat.{ℕ, zero, suc, ◌+◌, ◌*◌, ◌-◌, ◌≤◌, ◌<◌}
+use Prim.Native.Nat.{ℕ, zero, suc, ◌+◌, ◌*◌, ◌-◌, ◌≤◌, min}
 use mathlib.Core.Bool.{Bool, true, false, ◌&&◌, and-eq-true_iff}
 use mathlib.Core.List.{List, [], ◌∷◌}
 use mathlib.Core.Path.{◌≡◌, refl, sym, ap, ◌∙◌}
 use native.Mathlib.Omega.{arith}
-use lib.Dec.{eqb, leb}
+use lib.Dec.{eqb, ltb, leb}
 use lib.ListN.{length, get_or, take, drop, length-drop, drop_of_length-le}
-use lib.Seq.{length-take-le, drop-drop}
-use borrow.Author.Tests.{eqb-true, eq-eqb, leb-true}
+use lib.Seq.{length-take-le}
+use borrow.Author.Tests.{eqb-true, eq-eqb, ltb-true, ltb-false, leb-true}
 use Rattle.model.specs.Layout.{limits}
 use Rattle.std.specs.Prelude.{if◌then◌else◌}
 use Rattle.process.specs.ProcessWords.{sizes, known_process}
@@ -20,25 +20,6 @@ part_is w at = let e : at + sizes.process - at ≡ sizes.process = omega arith i
 
 pub part_long : (w : List ℕ) (at : ℕ) → at + sizes.process ≤ length w → length (take (at + sizes.process - at) (drop at w)) ≡ sizes.process
 part_long w at h = ap length (part_is w at) ∙ length-take-le sizes.process (drop at w) (rw length-drop (omega (arith, h)))
-
-module _ (w : List ℕ) (at left : ℕ) (some : 0 < left) (b : Bool) (found : b ≡ known_process (take (at + sizes.process - at)
-    (drop at w))) where
-  first : known_process (take sizes.process (drop at w)) ≡ b
-  first = sym (found ∙ ap known_process (part_is w at))
-
-  split : (m : ℕ) → left ≡ suc m → all_known left (drop at w) ≡ (if b then all_known m (drop (at + sizes.process) w) else false)
-  unfolding all_known
-  split m e = rw (e, first, drop-drop)
-
-  pub unknown_first : b ≡ false → false ≡ all_known left (drop at w)
-  unknown_first e = sym (split (left - 1) (omega (arith, some)) ∙ rw e)
-
-  pub known_first : b ≡ true → all_known (left - 1) (drop (at + sizes.process) w) ≡ all_known left (drop at w)
-  known_first e = sym (split (left - 1) (omega (arith, some)) ∙ rw e)
-
-pub none_left : (w : List ℕ) (left : ℕ) → left ≡ 0 → true ≡ all_known left w
-unfolding all_known
-none_left w left e = rw e
 
 -- past the last process there are no words
 pub none_known : (n : ℕ) → true ≡ all_known n []
@@ -96,6 +77,19 @@ module _ (w : List ℕ) (i : ℕ) (b : Bool) (head : b ≡ known_head w) where
 
   pub by_all : b ≡ true → limits.processes ≤ i → all_known limits.processes (drop sizes.head w) ≡ is_state_below w i
   by_all e h = all_past limits.processes i (drop sizes.head w) (behind_long w (sym head ∙ e)) h ∙ by_first e
+
+  -- a count past the last process asks for all of them
+  pub by_least : b ≡ true → all_known (min i limits.processes) (drop sizes.head w) ≡ is_state_below w i
+  by_least e = cases (ltb limits.processes i) refl
+    where
+      cases : (past : Bool) → ltb limits.processes i ≡ past → all_known (min i limits.processes) (drop sizes.head w) ≡ is_state_below w i
+      cases true p =
+          let h = ltb-true limits.processes i p in
+          let n : min i limits.processes ≡ limits.processes = omega (arith, h) in
+          ap (λ n. all_known n (drop sizes.head w)) n ∙ by_all e (omega (arith, h))
+      cases false p =
+          let n : min i limits.processes ≡ i = omega (arith, ltb-false limits.processes i p) in
+          ap (λ n. all_known n (drop sizes.head w)) n ∙ by_first e
 
   pub by_one : b ≡ true → known_process (part w i) ≡ is_state_at w i
   unfolding is_state_at

@@ -1,5 +1,6 @@
+pub mod Back
 pub mod Known
 pub mod Laws
-pub mod Back
+pub mod Parts
 pub mod Whole
 pub mod Written

@@ -10,7 +10,7 @@ use lib.Seq.{sets, sets-eq, set-get_or, set_out, get_or-set_same, length-take-le
 use borrow.Author.Tests.{ltb-true, ltb-false}
 use Rattle.model.specs.declared.types.Counts.{Counts}
 use Rattle.model.specs.declared.types.Process.{Process}
-use Rattle.std.specs.Prelude.{if◌then◌else◌}
+use Rattle.std.specs.Prelude.{◌≢◌, if◌then◌else◌}
 use Rattle.model.specs.Layout.{limits}
 use Rattle.model.specs.State.{no_process, process_at, with_event}
 use Rattle.layout.specs.Head.{header_words, header_offsets, header_of, head_offsets, head_at}
@@ -42,6 +42,14 @@ sets_part w at h =
 pub part_facts : (w : List ℕ) (i : ℕ) → is_state_at w i ≡ true → (length w ≡ sizes.state) × (known_process (part w i) ≡ true)
 unfolding is_state_at
 part_facts w i k = let a = (and-eq-true_iff (known_head w) (known_process (part w i))).0 k in (head_long w a.0, a.1)
+
+-- words of another number are no state's
+pub other_length : (w : List ℕ) (i : ℕ) → length w ≢ sizes.state → is_state_at w i ≡ false
+other_length w i h = cases (is_state_at w i) refl
+  where
+    cases : (b : Bool) → is_state_at w i ≡ b → is_state_at w i ≡ false
+    cases true e = absurd (h (part_facts w i e).0)
+    cases false e = e
 
 pub process_same : (w : List ℕ) (i : ℕ) → is_state_at w i ≡ true → sets w (start_of i) (process_words (process_at (state_from w) i)) ≡ w
 process_same w i k = cases (ltb i limits.processes) refl

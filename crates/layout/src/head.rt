@@ -4,7 +4,7 @@ ghost use Rattle.layout.specs.Head.{header_offsets, head_offsets, header_of};
 
 use model::types::State;
 
-// The header's word of a state that is open; a closed one's is 0.
+// The header's word of a state that is open; a closed one's is 0. A number of the layout: any other is no state's (`known_head`).
 pub const OPEN: u32 = 1;
 
 // Where each word of the header stands: whether the state is open, processes, limit, events, lengths of both tables, nodes and
@@ -40,7 +40,7 @@ impl HeaderOffsets {
     // How many they are.
     pub const WORDS: usize = 8;
 
-    // Never called: it ties the constants to the definitions.
+    // Never called: it ties the constants to the definition `header_offsets`, whose record is of this type alone.
     pub fn words() -> Self
         ensures { result ≡ header_offsets }
     {
@@ -85,7 +85,7 @@ impl HeadOffsets {
 
     pub const VERSIONS: usize = Self::HEADER + HeaderOffsets::VERSIONS;
 
-    // Never called: it ties the constants to the definitions.
+    // Never called: it ties the constants to the definition `head_offsets`, whose record is of this type alone.
     pub fn words() -> Self
         ensures { result ≡ head_offsets }
     {
@@ -101,7 +101,7 @@ pub fn header_of(s: State) -> [u32; HeaderOffsets::WORDS]
     ensures { result ≡ header_of s }
 {
     [
-        s.opened as u32,
+        u32::from(s.opened),
         s.processes,
         s.limit,
         s.events,

@@ -1,33 +1,38 @@
-// The whole state in its words.
-ghost use Rattle.std.specs.Prelude.{◌≡◌, ◌≤◌, length, take, drop, ◌++◌};
+// The whole state in its words. State and array are types of other crates, so the conversions are functions and no From.
+ghost use Rattle.std.specs.Prelude.{◌≡◌, ◌≤◌, ◌<◌, take, drop, ◌++◌};
+ghost use Rattle.std.specs.Simd.{first_chunks};
 ghost use Rattle.model.specs.Layout.{limits};
 ghost use Rattle.process.specs.ProcessWords.{sizes};
 ghost use Rattle.layout.specs.Head.{head_offsets};
-ghost use Rattle.layout.specs.StateWords.{head_words, all_words, state_words, all_from, state_from, all_known, known_head, is_state_below, is_state_at, put_event};
+ghost use Rattle.layout.specs.StateWords.{head_words, all_words, state_words, all_from, state_from, all_known, known_head, is_state_below, part, is_state_at, put_event};
 ghost use Rattle.std.proofs.lemmas.List.Edits.{sets};
 
-use crate::head::{HeadOffsets, OPEN};
+use crate::head::{HeadOffsets, OPEN, header_of};
 use model::types::{Counts, Lengths, Process, State};
 use process::types::Sizes;
-use process::words::{is_process, process_in, put_process};
+use process::words::{is_process, process_in, words_of};
+
+// The words of each process, behind the head.
+fn processes(words: &[u32; Sizes::STATE]) -> &[[u32; Sizes::PROCESS]; State::PROCESSES as usize]
+    ensures { result.now ≡ first_chunks sizes.process limits.processes (drop sizes.head words.now) }
+{
+    words[Sizes::HEAD..].as_chunks().0.as_array().unwrap()
+}
+
+// The words of one process.
+pub fn process_at(words: &[u32; Sizes::STATE], process: u32) -> &[u32; Sizes::PROCESS]
+    requires { process < limits.processes }
+    ensures { result.now ≡ part words.now process }
+{
+    &processes(words)[process as usize]
+}
 
 // Whether the first n processes have known numbers.
-fn all_known(words: &[u32], n: u32) -> bool
-    requires words_len { length words.now ≡ sizes.state }
-    requires n_le_processes { n ≤ limits.processes }
+fn all_known(words: &[u32; Sizes::STATE], n: u32) -> bool
+    requires { n ≤ limits.processes }
     ensures { result ≡ all_known n (drop sizes.head words.now) }
 {
-    let mut at = Sizes::HEAD;
-    let mut left = n;
-    while 0 < left {
-        let end = at + Sizes::PROCESS;
-        if !is_process(&words[at..end]) {
-            return false;
-        }
-        at = end;
-        left -= 1;
-    }
-    true
+    processes(words)[..n as usize].iter().all(is_process)
 }
 
 // Whether the words are as many as a state's, of this layout, open or not.
@@ -50,11 +55,8 @@ pub fn is_state_below_count(words: &[u32]) -> bool
     if !is_head(words) {
         return false;
     }
-    let n = words[HeadOffsets::PROCESSES];
-    if State::PROCESSES < n {
-        return all_known(words, State::PROCESSES);
-    }
-    all_known(words, n)
+    let n = words[HeadOffsets::PROCESSES].min(State::PROCESSES);
+    all_known(words.as_array().unwrap(), n)
 }
 
 // The same of the head and one process: what a start, a step and a standing of it read.
@@ -67,15 +69,12 @@ pub fn is_state_at(words: &[u32], process: u32) -> bool
     if State::PROCESSES <= process {
         return true;
     }
-    let at = Sizes::HEAD + Sizes::PROCESS * process as usize;
-    let end = at + Sizes::PROCESS;
-    is_process(&words[at..end])
+    is_process(process_at(words.as_array().unwrap(), process))
 }
 
 // Nodes and versions in use.
 #[tactic(auto, unfolding(crate::specs::StateWords::state_from))]
-pub fn counts_in(words: &[u32]) -> Counts
-    requires { length words.now ≡ sizes.state }
+pub fn counts_in(words: &[u32; Sizes::STATE]) -> Counts
     ensures { result ≡ (state_from words.now).counts }
 {
     Counts {
@@ -86,25 +85,14 @@ pub fn counts_in(words: &[u32]) -> Counts
 
 // The processes, one after another.
 #[tactic(auto, unfolding(crate::specs::StateWords::all_from))]
-fn processes_in(words: &[u32]) -> [Process; State::PROCESSES as usize]
-    requires { length words.now ≡ sizes.state }
+fn processes_in(words: &[u32; Sizes::STATE]) -> [Process; State::PROCESSES as usize]
     ensures { result ≡ all_from limits.processes (drop sizes.head words.now) }
 {
-    let mut process = [Process::idle(); State::PROCESSES as usize];
-    let mut at = Sizes::HEAD;
-    let mut i = 0;
-    while i < State::PROCESSES {
-        let end = at + Sizes::PROCESS;
-        process[i as usize] = process_in(&words[at..end]);
-        at = end;
-        i += 1;
-    }
-    process
+    processes(words).each_ref().map(process_in)
 }
 
 #[tactic(auto, unfolding(crate::specs::StateWords::state_from))]
-pub fn state_in(words: &[u32]) -> State
-    requires { length words.now ≡ sizes.state }
+pub fn state_in(words: &[u32; Sizes::STATE]) -> State
     ensures { result ≡ state_from words.now }
 {
     let lengths = Lengths {
@@ -124,39 +112,21 @@ pub fn state_in(words: &[u32]) -> State
     }
 }
 
-fn put_head(words: &mut [u32], s: State)
-    requires { length words.old ≡ sizes.state }
+fn put_head(words: &mut [u32; Sizes::STATE], s: State)
     ensures { words.new ≡ sets words.old head_offsets.version (head_words s) }
 {
     words[HeadOffsets::VERSION] = Sizes::VERSION;
-    words[HeadOffsets::OPENED] = s.opened as u32;
-    words[HeadOffsets::PROCESSES] = s.processes;
-    words[HeadOffsets::LIMIT] = s.limit;
-    words[HeadOffsets::EVENTS] = s.events;
-    words[HeadOffsets::NODE_LENGTH] = s.lengths.nodes;
-    words[HeadOffsets::VERSION_LENGTH] = s.lengths.versions;
-    words[HeadOffsets::NODES] = s.counts.nodes;
-    words[HeadOffsets::VERSIONS] = s.counts.versions;
+    words[HeadOffsets::HEADER..Sizes::HEAD].copy_from_slice(&header_of(s));
 }
 
 #[tactic(auto, unfolding(crate::specs::StateWords::all_words))]
-fn put_processes(words: &mut [u32], process: [Process; State::PROCESSES as usize])
-    requires { length words.old ≡ sizes.state }
+fn put_processes(words: &mut [u32; Sizes::STATE], process: [Process; State::PROCESSES as usize])
     ensures { words.new ≡ take sizes.head words.old ++ all_words process }
 {
-    let mut at = Sizes::HEAD;
-    let mut i = 0;
-    while i < State::PROCESSES {
-        let end = at + Sizes::PROCESS;
-        let p = process[i as usize];
-        put_process(&mut words[at..end], p);
-        at = end;
-        i += 1;
-    }
+    words[Sizes::HEAD..].copy_from_slice(process.map(words_of).as_flattened());
 }
 
-pub fn put_state(words: &mut [u32], s: State)
-    requires { length words.old ≡ sizes.state }
+pub fn put_state(words: &mut [u32; Sizes::STATE], s: State)
     ensures { words.new ≡ state_words s }
 {
     let process = s.process;
@@ -164,9 +134,8 @@ pub fn put_state(words: &mut [u32], s: State)
     put_processes(words, process);
 }
 
-// The counts that an event leaves.
-pub fn put_event(words: &mut [u32], tick: u32, counts: Counts)
-    requires { length words.old ≡ sizes.state }
+// The counts that an event leaves. Tick and counts stay two: what a step answers has the tick alone.
+pub fn put_event(words: &mut [u32; Sizes::STATE], tick: u32, counts: Counts)
     ensures { words.new ≡ put_event words.old tick counts }
 {
     words[HeadOffsets::EVENTS] = tick;

@@ -1,4 +1,5 @@
 -- On words that are a state every call is: decode, the store's call, encode. On the words of a state it is the store's call.
+use Rattle.model.specs.Types.{Permit, StartResult, Ok, Err}
 use Prim.Native.Nat.{ℕ, ◌+◌, ◌≤◌, ◌<◌}
 use mathlib.Core.Bool.{true}
 use mathlib.Core.List.{List}
@@ -9,10 +10,7 @@ use lib.Seq.{length-take-le}
 use Rattle.model.specs.declared.types.Call.{Call}
 use Rattle.model.specs.declared.types.Move.{Move}
 use Rattle.model.specs.declared.types.Move.TheVariants.{Refuse, Wait, Go, Note, Commit, Show, End}
-use Rattle.model.specs.declared.types.Permit.{Permit}
-use Rattle.model.specs.declared.types.Permit.TheVariants.{Granted, Denied}
 use Rattle.model.specs.declared.types.Process.{Process}
-use Rattle.model.specs.declared.types.StartResult.{StartResult}
 use Rattle.model.specs.declared.types.State.{State}
 use Rattle.model.specs.Layout.{Memory, levels, limits}
 use Rattle.model.specs.State.{process_at, memory_of}
@@ -65,8 +63,8 @@ module _ (w nodes versions : List ℕ) (i : ℕ) (known : is_state w ≡ true) (
   let_pass : (p : Permit) (c : Call) → start_permit (state_from w) nodes versions i (first_of op) (last_of op) ≡ p
       → written w i (start_by p (state_from w) i c).state ≡ state_words (start_by p (state_from w) i c).state
   unfolding start_by
-  let_pass (Denied r) c e = same w i known
-  let_pass Granted c e =
+  let_pass (Err r) c e = same w i known
+  let_pass (Ok tt) c e =
       let f = may_start (state_from w) nodes versions i (first_of op) (last_of op) refl e in
       let l = f.lawful.processes in
       written_state w i (begun c) (state_from w).counts known (omega (arith, f.process)) (process_long (begun c) refl)
@@ -104,8 +102,8 @@ module _ (w nodes versions tally : List ℕ) (i : ℕ) (known : is_state w ≡ t
 
   permitted : (p : Permit) (v : Moved) → step_permit store i ≡ p → written w i (step_by p store i v).store.state ≡ state_words (step_by p store i v).store.state
   unfolding step_by
-  permitted (Denied r) v e = same w i known
-  permitted Granted v e =
+  permitted (Err r) v e = same w i known
+  permitted (Ok _) v e =
       let f = (may_step store i refl e).start in
       let l = f.lawful.processes in
       moved (omega (arith, f.process)) v.move v.memory

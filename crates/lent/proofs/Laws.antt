@@ -1,4 +1,5 @@
 -- Steps and starts in place: what is left of one process, put into the words, is what the store's call leaves, encoded.
+use Rattle.model.specs.Types.{Permit, Ok, Err}
 use Prim.Native.Nat.{ℕ, ◌+◌, ◌<◌}
 use mathlib.Core.Bool.{Bool, true, false, ◌&&◌, and-true, and-false, and-eq-true_iff}
 use mathlib.Core.List.{List}
@@ -10,14 +11,8 @@ use Rattle.model.specs.Numbers.{kind_from}
 use Rattle.model.specs.declared.types.Call.{Call}
 use Rattle.model.specs.declared.types.Counts.{Counts}
 use Rattle.model.specs.declared.types.Move.{Move}
-use Rattle.model.specs.declared.types.Permit.{Permit}
-use Rattle.model.specs.declared.types.Permit.TheVariants.{Granted, Denied}
 use Rattle.model.specs.declared.types.Refusal.{Refusal}
 use Rattle.model.specs.declared.types.Refusal.TheVariants.{Corrupt}
-use Rattle.model.specs.declared.types.Looking.{Looking}
-use Rattle.model.specs.declared.types.Starting.{Starting}
-use Rattle.model.specs.declared.types.Status.{Status}
-use Rattle.model.specs.declared.types.Stepping.{Stepping}
 use Rattle.model.specs.Layout.{Memory, limits}
 use Rattle.model.specs.Phases.{moved, transition_of, refuses}
 use Rattle.model.specs.State.{process_at, with_event, lawful_store}
@@ -45,14 +40,14 @@ kind_at w i j e h =
     ∙ ap kind_from (get_or-take sizes.process (drop (start_of i) w) k 0 (omega arith) ∙ get_or-drop (start_of i) w k 0 ∙ ap (λ q. get_or w (start_of q + k) 0) (sym e))
 
 abbrev unchanged : Refusal → (words nodes versions tally : List ℕ) → StepIn
-unchanged r w nodes versions tally = stepped_in (Stepping.Refused r) w nodes versions tally
+unchanged r w nodes versions tally = stepped_in (Err r) w nodes versions tally
 
-denied_is : {q r : Refusal} → Denied q ≡ Denied r → q ≡ r
+denied_is : {q r : Refusal} → ◌≡◌ {A = Permit} (Err q) (Err r) → q ≡ r
 denied_is e = ap refusal_of e
   where
     refusal_of : Permit → Refusal
-    refusal_of (Denied r) = r
-    refusal_of Granted = Corrupt
+    refusal_of (Err r) = r
+    refusal_of (Ok _) = Corrupt
 
 -- what a step reads, lawful or not
 module _ (w nodes versions : List ℕ) (i : ℕ) where
@@ -82,28 +77,28 @@ module _ (w nodes versions tally : List ℕ) (i : ℕ) where
   unfolding step_permit_in
   permit_known e = simp e
 
-  pub permit_unknown : is_state_at w i ≡ false → Denied Corrupt ≡ step_permit_in w nodes versions tally i
+  pub permit_unknown : is_state_at w i ≡ false → Err Corrupt ≡ step_permit_in w nodes versions tally i
   unfolding step_permit_in
   permit_unknown e = simp e
 
-  denied_corrupt : lawful_store (state_from w) nodes versions ≡ false → step_permit store i ≡ Denied Corrupt
+  denied_corrupt : lawful_store (state_from w) nodes versions ≡ false → step_permit store i ≡ Err Corrupt
   unfolding step_permit
   denied_corrupt e = simp e
 
-  pub unlawful : lawful_in w nodes versions i ≡ false → step_permit_in w nodes versions tally i ≡ Denied Corrupt
+  pub unlawful : lawful_in w nodes versions i ≡ false → step_permit_in w nodes versions tally i ≡ Err Corrupt
   unlawful e = cases (is_state_at w i) refl
     where
-      cases : (b : Bool) → is_state_at w i ≡ b → step_permit_in w nodes versions tally i ≡ Denied Corrupt
+      cases : (b : Bool) → is_state_at w i ≡ b → step_permit_in w nodes versions tally i ≡ Err Corrupt
       cases false k = sym (permit_unknown k)
       cases true k = sym (permit_known k) ∙ denied_corrupt (sym (ap (λ b. b && lawful_store (state_from w) nodes versions) k) ∙ e)
 
   -- a step that is let pass finds a state in the words
-  pub passed : step_permit_in w nodes versions tally i ≡ Granted → (is_state_at w i ≡ true) × (step_permit store i ≡ Granted)
+  pub passed : step_permit_in w nodes versions tally i ≡ (Ok tt) → (is_state_at w i ≡ true) × (step_permit store i ≡ (Ok tt))
   passed e = cases (is_state_at w i) refl
     where
-      cases : (b : Bool) → is_state_at w i ≡ b → (is_state_at w i ≡ true) × (step_permit store i ≡ Granted)
+      cases : (b : Bool) → is_state_at w i ≡ b → (is_state_at w i ≡ true) × (step_permit store i ≡ (Ok tt))
       cases true k = (k, permit_known k ∙ e)
-      cases false k = let z : Denied Corrupt ≡ Granted = permit_unknown k ∙ e in (cc, cc)
+      cases false k = let z : Err Corrupt ≡ (Ok tt) = permit_unknown k ∙ e in (cc, cc)
 
   unknown : is_state_at w i ≡ false → unchanged Corrupt w nodes versions tally ≡ step_in w nodes versions tally i
   unfolding step_in
@@ -113,12 +108,12 @@ module _ (w nodes versions tally : List ℕ) (i : ℕ) where
   unfolding step_in
   in_words known = simp known
 
-  denied : is_state_at w i ≡ true → (r : Refusal) → step_permit store i ≡ Denied r
+  denied : is_state_at w i ≡ true → (r : Refusal) → step_permit store i ≡ Err r
       → unchanged r w nodes versions tally ≡ step_written w i (step_of store i)
   unfolding step_of step_by
   denied known r e = simp (e, written_same w i known)
 
-  pub step_denied : (r : Refusal) → step_permit_in w nodes versions tally i ≡ Denied r
+  pub step_denied : (r : Refusal) → step_permit_in w nodes versions tally i ≡ Err r
       → unchanged r w nodes versions tally ≡ step_in w nodes versions tally i
   step_denied r e = cases (is_state_at w i) refl
     where
@@ -137,7 +132,7 @@ module _ (w nodes versions tally : List ℕ) (i : ℕ) where
         (m : Memory)
         (now : events ≡ (state_from w).events)
         (used : counts ≡ (state_from w).counts)
-        (granted : step_permit store i ≡ Granted)
+        (granted : step_permit store i ≡ (Ok tt))
         (few : i < limits.processes)
         (turned : moved m v ≡ transition_of (i + 1) (events + 1) (process_in w (start_of i)) (memory nodes versions counts))
       where
@@ -198,37 +193,37 @@ module _ (w : List ℕ) (i : ℕ) (permit : Permit) (call : ℕ → Call) where
   abbrev begins : StartIn
   begins = start_unless w i (start_by permit (state_from w) i (call ((state_from w).events + 1)))
 
-  pub start_unknown : is_state_at w i ≡ false → started_in (Starting.Refused Corrupt) w ≡ begins
+  pub start_unknown : is_state_at w i ≡ false → started_in (Err Corrupt) w ≡ begins
   start_unknown e = simp e
 
   module _ (known : is_state_at w i ≡ true) where
-    pub start_denied : (r : Refusal) → permit ≡ Denied r → started_in (Starting.Refused r) w ≡ begins
+    pub start_denied : (r : Refusal) → permit ≡ Err r → started_in (Err r) w ≡ begins
     unfolding start_by
     start_denied r e = simp (known, e, written_same w i known)
 
-    begun_in_lem : permit ≡ Granted
-        → started_in (Starting.Started ((state_from w).events + 1))
+    begun_in_lem : permit ≡ (Ok tt)
+        → started_in (Ok ((state_from w).events + 1))
         (written w i (with_event (state_from w) i (state_from w).counts (begun (call ((state_from w).events + 1))))) ≡ begins
     unfolding start_by
     begun_in_lem e = simp (known, e)
 
     -- the process at its walk in its own words, and the event
-    pub start_granted : (j events : ℕ) (v : List ℕ) → permit ≡ Granted → events ≡ (state_from w).events → j ≡ i
+    pub start_granted : (j events : ℕ) (v : List ℕ) → permit ≡ (Ok tt) → events ≡ (state_from w).events → j ≡ i
         → i < limits.processes → ((tick : ℕ) → (call tick).start ≡ tick) → v ≡ begun_in w (start_of j) (call (events + 1))
-        → started_in (Starting.Started (events + 1)) v ≡ begins
+        → started_in (Ok (events + 1)) v ≡ begins
     start_granted j events v e now slot few timed put =
         let tick = (state_from w).events + 1 in
         let q = begun (call tick) in
-        ap (started_in (Starting.Started (events + 1))) (put ∙ ap (λ j. begun_in w (start_of j) (call (events + 1))) slot)
-        ∙ ap (λ n. started_in (Starting.Started (n + 1)) (begun_in w (start_of i) (call (n + 1)))) now
-        ∙ ap (started_in (Starting.Started tick))
+        ap (started_in (Ok (events + 1))) (put ∙ ap (λ j. begun_in w (start_of j) (call (events + 1))) slot)
+        ∙ ap (λ n. started_in (Ok (n + 1)) (begun_in w (start_of i) (call (n + 1)))) now
+        ∙ ap (started_in (Ok tick))
         (ap (λ t. evented w (start_of i) t (state_from w).counts q) (timed tick) ∙ written_over_lem w i q (state_from w).counts few)
         ∙ begun_in_lem e
 
 -- ---- the calls that change nothing
 
 module _ (w nodes versions : List ℕ) (k back : ℕ) where
-  pub look_headless : known_head w ≡ false → Looking.Refused Corrupt ≡ look_in w nodes versions k back
+  pub look_headless : known_head w ≡ false → Err Corrupt ≡ look_in w nodes versions k back
   unfolding look_in
   look_headless e = simp e
 
@@ -238,7 +233,7 @@ module _ (w nodes versions : List ℕ) (k back : ℕ) where
   look_by_lem permit known e = simp (known, e)
 
 module _ (w : List ℕ) (i : ℕ) where
-  pub status_unknown : is_state_at w i ≡ false → Status.Refused Corrupt ≡ status_in w i
+  pub status_unknown : is_state_at w i ≡ false → Err Corrupt ≡ status_in w i
   unfolding status_in
   status_unknown e = simp e
 

@@ -1,5 +1,6 @@
 -- Demand 3 of the store in lent words: on the words of a state each call answers as the store by value does, and leaves the
 -- words of the state that it leaves.
+use Rattle.model.specs.Types.{Permit, Ok, Err}
 use Prim.Native.Nat.{ℕ, ◌+◌, ◌<◌}
 use mathlib.Core.Bool.{true}
 use mathlib.Core.Path.{◌≡◌, refl, sym, ap, subst, ◌∙◌, fun_ext}
@@ -12,8 +13,6 @@ use Rattle.model.specs.declared.types.Call.{Call}
 use Rattle.model.specs.declared.types.Counts.{Counts}
 use Rattle.model.specs.declared.types.Lengths.{Lengths}
 use Rattle.model.specs.declared.types.Move.{Move}
-use Rattle.model.specs.declared.types.Permit.{Permit}
-use Rattle.model.specs.declared.types.Permit.TheVariants.{Granted, Denied}
 use Rattle.model.specs.declared.types.Process.{Process}
 use Rattle.model.specs.declared.types.State.{State}
 use Rattle.model.specs.Layout.{Memory, levels, limits}
@@ -68,8 +67,8 @@ whole_event s i counts p h o = record {
 
 whole_start : (d : Permit) (s : State) (i : ℕ) (call : Call) → Whole s → Whole (start_by d s i call).state
 unfolding start_by
-whole_start (Denied r) s i call o = o
-whole_start Granted s i call o = whole_event s i s.counts _ (λ lt. refl) o
+whole_start (Err r) s i call o = o
+whole_start (Ok _) s i call o = whole_event s i s.counts _ (λ lt. refl) o
 
 whole_move : (x : Store) (i : ℕ) (v : Move) (m : Memory) → Whole x.state → Whole (store_after x i v m).state
 whole_move x i v m o = if-by (λ (y : Store). Whole y.state) (refuses v) (λ t. o) λ t.
@@ -78,8 +77,8 @@ whole_move x i v m o = if-by (λ (y : Store). Whole y.state) (refuses v) (λ t. 
 
 whole_step : (d : Permit) (x : Store) (i : ℕ) (v : Moved) → Whole x.state → Whole (step_by d x i v).store.state
 unfolding step_by
-whole_step (Denied r) x i v o = o
-whole_step Granted x i v o = whole_move x i v.move v.memory o
+whole_step (Err r) x i v o = o
+whole_step (Ok _) x i v o = whole_move x i v.move v.memory o
 
 -- ---- the words of a store, and each call on them
 
@@ -126,8 +125,8 @@ module _ (l : Lending) where
   opens_by_lem : (d : Permit) → let b = open_by d g.nodes g.versions g.processes g.limit in
       SameOpening Holds (opens_by b.result.outcome (fresh_lent (open_encoded b))) (opens_by b.result.outcome (fresh_store b))
   unfolding open_by
-  opens_by_lem (Denied r) = refl
-  opens_by_lem Granted = (refl, whole_fresh g.processes g.limit _)
+  opens_by_lem (Err r) = refl
+  opens_by_lem (Ok _) = (refl, whole_fresh g.processes g.limit _)
 
   opens_alike : SameOpening Holds (lent_words.fresh l) (by_value.fresh g)
   unfolding open_of

@@ -1,17 +1,8 @@
 -- Each call on a state in words: decode, the store's call, encode. "Each is given if its condition is the first met", so a call
 -- tests the words that it reads: where these are no state's it is refused 10, and nothing changes.
+use Rattle.model.specs.Types.{Opening, Starting, StartResult, Stepping, Looking, Inspecting, Status, Permit, Err}
 use Rattle.std.specs.Prelude.{ℕ, Bool, ◌&&◌, List, eqb, length}
 use Rattle.model.specs.declared.types.Call.{Call}
-use Rattle.model.specs.declared.types.Kind.{Kind}
-use Rattle.model.specs.declared.types.Opening.{Opening}
-use Rattle.model.specs.declared.types.Starting.{Starting}
-use Rattle.model.specs.declared.types.StartResult.{StartResult}
-use Rattle.model.specs.declared.types.Stepping.{Stepping}
-use Rattle.model.specs.declared.types.Looking.{Looking}
-use Rattle.model.specs.declared.types.Inspecting.{Inspecting}
-use Rattle.model.specs.declared.types.Status.{Status}
-use Rattle.model.specs.declared.types.Permit.{Permit}
-use Rattle.model.specs.declared.types.Permit.TheVariants.{Denied}
 use Rattle.model.specs.declared.types.Refusal.TheVariants.{Corrupt}
 use Rattle.std.specs.Prelude.{if◌then◌else◌}
 use Rattle.model.specs.Calls.{Opened, open_of, begun, start_of, Stepped, store_of, step_permit, step_of, look_of, status_of}
@@ -41,7 +32,7 @@ open_encoded o = opened_in o.result.outcome (state_words o.result.state) o.nodes
 unfoldable pub open_in : (words nodes versions : List ℕ) (processes limit : ℕ) → OpenIn
 open_in w nodes versions processes limit =
     if eqb (length w) sizes.state then open_encoded (open_of nodes versions processes limit)
-    else opened_in (Opening.Refused Corrupt) w nodes versions
+    else opened_in (Err Corrupt) w nodes versions
 
 -- ---- start: the head and the process that is started are read and written, and no other word of the state
 
@@ -58,11 +49,7 @@ abbrev pub start_written : (words : List ℕ) → ℕ → StartResult → StartI
 start_written w i r = started_in r.outcome (written w i r.state)
 
 abbrev pub start_unless : (words : List ℕ) → ℕ → StartResult → StartIn
-start_unless w i r = if is_state_at w i then start_written w i r else started_in (Starting.Refused Corrupt) w
-
--- the call that has these parts, and then a tick
-abbrev pub call_with : Kind → (key last value timestamp top tick : ℕ) → Call
-call_with kind k last v t top tick = record { kind = kind; key = k; last = last; value = v; timestamp = t; top = top; start = tick }
+start_unless w i r = if is_state_at w i then start_written w i r else started_in (Err Corrupt) w
 
 -- the words with a call begun in those of the process at a place, and its event
 abbrev pub begun_in : (words : List ℕ) (at : ℕ) → Call → List ℕ
@@ -99,24 +86,24 @@ lawful_in w nodes versions i = is_state_at w i && lawful_store (state_from w) no
 -- the refusals of a step, words that are no state first
 unfoldable pub step_permit_in : (words nodes versions tally : List ℕ) (process : ℕ) → Permit
 step_permit_in w nodes versions tally i =
-    if is_state_at w i then step_permit (store_of (state_from w) nodes versions tally) i else Denied Corrupt
+    if is_state_at w i then step_permit (store_of (state_from w) nodes versions tally) i else Err Corrupt
 
 unfoldable pub step_in : (words nodes versions tally : List ℕ) (process : ℕ) → StepIn
 step_in w nodes versions tally i =
     if is_state_at w i then step_written w i (step_of (store_of (state_from w) nodes versions tally) i)
-    else stepped_in (Stepping.Refused Corrupt) w nodes versions tally
+    else stepped_in (Err Corrupt) w nodes versions tally
 
 -- ---- the calls that change nothing
 
 -- a look reads the head alone
 unfoldable pub look_in : (words nodes versions : List ℕ) (key back : ℕ) → Looking
-look_in w nodes versions k back = if known_head w then look_of (state_from w) nodes versions k back else Looking.Refused Corrupt
+look_in w nodes versions k back = if known_head w then look_of (state_from w) nodes versions k back else Err Corrupt
 
 -- an inspection also the processes below the count, which are to be idle
 unfoldable pub inspect_in : (words nodes versions : List ℕ) → Inspecting
 inspect_in w nodes versions =
-    if is_state_below w (state_from w).processes then inspect_of (state_from w) nodes versions else Inspecting.Refused Corrupt
+    if is_state_below w (state_from w).processes then inspect_of (state_from w) nodes versions else Err Corrupt
 
 -- a standing also the process asked
 unfoldable pub status_in : (words : List ℕ) (process : ℕ) → Status
-status_in w i = if is_state_at w i then status_of (state_from w) i else Status.Refused Corrupt
+status_in w i = if is_state_at w i then status_of (state_from w) i else Err Corrupt

@@ -4,7 +4,6 @@ ghost use Rattle.lent.specs.Calls.{opened_in, open_in};
 
 use layout::state::put_state;
 use model::types::{Opening, Refusal};
-use process::types::Sizes;
 use store::open::open;
 
 // Words of another number are refused and left: a state has no room in them. No other opening leaves the words as they
@@ -20,12 +19,10 @@ pub fn open_in(
     ensures { opened_in result words.new nodes.new versions.new
         ≡ open_in words.old nodes.old versions.old processes limit }
 {
-    if words.len() != Sizes::STATE {
-        return Opening::Refused(Refusal::Corrupt);
-    }
+    let Some(words) = words.as_mut_array() else {
+        return Err(Refusal::Corrupt);
+    };
     let r = open(nodes, versions, processes, limit);
-    let state = r.state;
-    let outcome = r.outcome;
-    put_state(words, state);
-    outcome
+    put_state(words, r.state);
+    r.outcome
 }

@@ -4,8 +4,8 @@ ghost use Rattle.lent.specs.Calls.{look_in, inspect_in, status_in};
 
 use inspection::inspect::inspect;
 use layout::head::HeadOffsets;
-use layout::state::{counts_in, is_head, is_state_at, is_state_below_count, state_in};
-use model::types::{Inspecting, Key, Looking, Permit, Refusal, Status};
+use layout::state::{counts_in, is_head, is_state_at, is_state_below_count, process_at, state_in};
+use model::types::{Inspecting, Key, Looking, Refusal, Status};
 use process::types::Sizes;
 use process::words::process_in;
 use queries::look::look_granted;
@@ -17,21 +17,16 @@ pub fn look_in(words: &[u32], nodes: &[u32], versions: &[u32], key: Key, back: u
     ensures { result ≡ look_in words.now nodes.now versions.now key back }
 {
     if !is_head(words) {
-        return Looking::Refused(Refusal::Corrupt);
+        return Err(Refusal::Corrupt);
     }
-    let permit = look_permit(
+    look_permit(
         &words[HeadOffsets::HEADER..Sizes::HEAD],
         nodes,
         versions,
         key,
-    );
-    match permit {
-        Permit::Granted => {
-            let counts = counts_in(words);
-            look_granted(counts, nodes, versions, key, back)
-        }
-        Permit::Denied(refusal) => Looking::Refused(refusal),
-    }
+    )?;
+    let counts = counts_in(words.as_array().unwrap());
+    look_granted(counts, nodes, versions, key, back)
 }
 
 // Sound, or the level and the node reached at the first fault. The state is decoded: an inspection is long beside that.
@@ -40,9 +35,9 @@ pub fn inspect_in(words: &[u32], nodes: &[u32], versions: &[u32]) -> Inspecting
     ensures { result ≡ inspect_in words.now nodes.now versions.now }
 {
     if !is_state_below_count(words) {
-        return Inspecting::Refused(Refusal::Corrupt);
+        return Err(Refusal::Corrupt);
     }
-    let s = state_in(words);
+    let s = state_in(words.as_array().unwrap());
     inspect(s, nodes, versions)
 }
 
@@ -51,16 +46,9 @@ pub fn status_in(words: &[u32], process: u32) -> Status
     ensures { result ≡ status_in words.now process }
 {
     if !is_state_at(words, process) {
-        return Status::Refused(Refusal::Corrupt);
+        return Err(Refusal::Corrupt);
     }
-    let permit = status_permit(&words[HeadOffsets::HEADER..Sizes::HEAD], process);
-    match permit {
-        Permit::Denied(refusal) => Status::Refused(refusal),
-        Permit::Granted => {
-            let at = Sizes::HEAD + Sizes::PROCESS * process as usize;
-            let end = at + Sizes::PROCESS;
-            let p = process_in(&words[at..end]);
-            standing(p)
-        }
-    }
+    status_permit(&words[HeadOffsets::HEADER..Sizes::HEAD], process)?;
+    let of = process_at(words.as_array().unwrap(), process);
+    standing(process_in(of))
 }

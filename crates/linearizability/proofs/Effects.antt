@@ -8,7 +8,7 @@ use mathlib.Core.Path.{◌≡◌, refl, sym, ap, ◌∙◌}
 use native.Mathlib.Omega.{arith}
 use lib.ListN.{length, get_or, take, length-append, get_or-append, get_or-eq_default}
 use lib.Seq.{get_or_at, take_at, take-append-le}
-use Rattle.linearizability.specs.Types.{Looking, BadKey, Found, Swept}
+use Rattle.linearizability.specs.Types.{BadKey, Found, Swept, Err}
 use Rattle.std.specs.Prelude.{if◌then◌else◌}
 use Rattle.model.specs.Requests.{Operation, put, get, scan, kind_of}
 use Rattle.model.specs.Map.{Map, versions_of, Reply, get_from, applied, look_in}
@@ -105,7 +105,7 @@ pub record Settles (K W : ℕ) (log : List Action) (eff : List Took) (d : Comple
 -- a look
 abbrev pub LookedAt : (K W : ℕ) → List Took → Query → Type 0
 LookedAt K W eff q = (q.tick ≤ length eff) × (q.outcome ≡
-    (if lawful_key q.key then look_in (played K W [] (take q.tick eff)) q.key q.back else Looking.Refused BadKey))
+    (if lawful_key q.key then look_in (played K W [] (take q.tick eff)) q.key q.back else Err BadKey))
 
 -- ---- one event more
 

@@ -12,7 +12,7 @@ use Rattle.model.specs.Roles.{is_put, is_get, is_scan, role_of, plays}
 use Rattle.model.specs.Phases.{at, used_version, ahead, walked, descend, walk_by, walk_of, show_at, swept, follow_at, follow_of}
 use Rattle.model.specs.Calls.{process_after}
 use Rattle.model.proofs.Tests.{if-by, if-eq, if-lt, T-absurd}
-use Rattle.linearizability.proofs.Invariant.{Ghost, In, Nodes, Book, PlacedOf, Unset, Ok, Scans, Fits, fits_at}
+use Rattle.linearizability.proofs.Invariant.{Ghost, In, Nodes, Book, PlacedOf, Unset, AtPhase, Scans, Fits, fits_at}
 use Rattle.linearizability.proofs.Alike.{alike_refl, risen_alike, risen_same}
 use Rattle.linearizability.proofs.Step.{Good, Related, related, within_T, no_climb, idle_fits, not_unused, along, place_in, get_at_node, still, goes}
 
@@ -45,7 +45,7 @@ scan_by P k Follow s w walk follow = follow
 
 -- a scan takes no effect
 pub scan_unset : {m : Memory} {g : Ghost} {i : ℕ} (pr : Process) → Fits m g i pr → pr.call.kind ≢ Idle → Scans pr → pr.effect.tick ≡ 0
-scan_unset {m} {g} {i} pr f nn s = scan_by (λ ph. Ok m g i pr ph → pr.effect.tick ≡ 0) pr.call.kind f.phase s (f.role nn)
+scan_unset {m} {g} {i} pr f nn s = scan_by (λ ph. AtPhase m g i pr ph → pr.effect.tick ≡ 0) pr.call.kind f.phase s (f.role nn)
     (λ c. c.1.0) (λ c. c.2.0) (f.ok nn)
 
 -- ---- what a scan's move does

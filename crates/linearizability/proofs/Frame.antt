@@ -7,7 +7,7 @@ use native.Mathlib.Omega.{arith}
 use Rattle.linearizability.specs.Types.{Phase, Walk, Read, Seek, Lock, Check, Update, Make, Link, Release, Follow, Class, Inserted, OtherPut, Hit, Miss, Scanned, Effect, Process}
 use Rattle.model.specs.Layout.{Memory, key, top, next, lock}
 use Rattle.model.specs.Roles.{class_of}
-use Rattle.linearizability.proofs.Invariant.{Ghost, In, At, Placed, Clear, Target, FoundAt, Made, Holds, Stage, StageOf, Settled, Ok, Fits}
+use Rattle.linearizability.proofs.Invariant.{Ghost, In, At, Placed, Clear, Target, FoundAt, Made, Holds, Stage, StageOf, Settled, AtPhase, Fits}
 
 -- nodes stay, with their keys, and are linked higher; those of process i have their top and are as high as they were
 pub record Grown (m m' : Memory) (g g' : Ghost) (i : ℕ) : Type 0 where
@@ -106,7 +106,7 @@ module _ {m m' : Memory} {g g' : Ghost} {i : ℕ} (F : Frame m m' g g' i) where
         key_is = rw e (F.grown.keys (next m.nodes l p) t.used ∙ t.key_is);
       }
 
-  ok_kept : (pr : Process) (ph : Phase) → Ok m g i pr ph → Ok m' g' i pr ph
+  ok_kept : (pr : Process) (ph : Phase) → AtPhase m g i pr ph → AtPhase m' g' i pr ph
   ok_kept pr Walk c = (placed_kept F.grown c.0, c.1)
   ok_kept pr Read c = (found_kept F.grown c.0, c.1)
   ok_kept pr Seek c = (placed_kept F.grown c.0, stage_of_kept F.grown pr c.1)

@@ -3,7 +3,7 @@ use Prim.Native.Nat.{ℕ, zero, suc, ◌+◌, ◌≤◌, ◌<◌}
 use mathlib.Core.Path.{◌≡◌, refl}
 use native.Mathlib.Omega.{arith}
 use lib.Dec.{T}
-use Rattle.linearizability.specs.Types.{Inspecting}
+use Rattle.linearizability.specs.Types.{Inspecting, Ok, Err, Some, Option, no_fault}
 use Rattle.model.specs.Layout.{Memory, levels, newest}
 use Rattle.model.specs.Inspection.{versions_sound, level_from, then_inspect, levels_from, inspection}
 use Rattle.model.specs.Soundness.{On, ChainSound, Sound}
@@ -15,9 +15,9 @@ use Rattle.linearizability.proofs.LevelInspected.{LevelRight, level_means, means
 -- ---- one level after another
 
 both_faultless : (a b : Inspecting) → Faultless (then_inspect a b) → Faultless a × Faultless b
-both_faultless (Inspecting.Refused r) b e = absurd (let z : ◌≡◌ {A = ℕ} 0 1 = cc in omega arith)
-both_faultless (Inspecting.Fault l x) b e = absurd (let z : ◌≡◌ {A = ℕ} 0 1 = cc in omega arith)
-both_faultless Inspecting.Sound b e = (refl, e)
+both_faultless (Err r) b e = absurd (let z : ◌≡◌ {A = ℕ} 0 1 = cc in omega arith)
+both_faultless (Ok (Some f)) b e = absurd (let z : ◌≡◌ {A = ℕ} 0 1 = cc in omega arith)
+both_faultless (Ok Option.None) b e = (refl, e)
 
 module _ (m : Memory) where
   abbrev walk : ℕ → Inspecting
@@ -51,7 +51,7 @@ module _ (m : Memory) where
 
   -- ---- the inspection
 
-  pub sound_means : inspection m ≡ Inspecting.Sound → Sound m
+  pub sound_means : inspection m ≡ no_fault → Sound m
   unfolding inspection
   sound_means e = record {
     levels = λ l h. (right l h).0;
@@ -61,7 +61,7 @@ module _ (m : Memory) where
       right : (l : ℕ) → l < levels → LevelRight m l
       right l h = level_means m l (levels_mean levels 0 e l (omega arith) h)
 
-  pub means_sound : Sound m → inspection m ≡ Inspecting.Sound
+  pub means_sound : Sound m → inspection m ≡ no_fault
   unfolding inspection
   means_sound s = means_levels levels 0 λ l low high.
       means_level m l (s.levels l high, means_versions s l) (m.counts.nodes + 1)

@@ -147,17 +147,17 @@ abbrev pub FoundOf : Memory → Process → Type 0
 FoundOf m pr = FoundAt m pr.cursor.level pr.cursor.pred pr.call.key
 
 -- what is known of a call by its phase
-abbrev pub Ok : Memory → Ghost → ℕ → Process → Phase → Type 0
-Ok m g i pr Walk = PlacedOf m g pr × Unset pr.effect
-Ok m g i pr Read = FoundOf m pr × (pr.effect.tick ≡ 0)
-Ok m g i pr Seek = PlacedOf m g pr × StageOf m g i pr
-Ok m g i pr Lock = PlacedOf m g pr × StageOf m g i pr
-Ok m g i pr Check = PlacedOf m g pr × StageOf m g i pr × HoldsOf m i pr
-Ok m g i pr Update = PlacedOf m g pr × StageOf m g i pr × HoldsOf m i pr × (pr.cursor.level ≡ 0) × TargetOf m pr
-Ok m g i pr Make = PlacedOf m g pr × StageOf m g i pr × HoldsOf m i pr × (pr.cursor.level ≡ 0) × ClearOf m pr
-Ok m g i pr Link = PlacedOf m g pr × StageOf m g i pr × HoldsOf m i pr × (1 ≤ pr.cursor.level) × ClearOf m pr
-Ok m g i pr Release = PlacedOf m g pr × (pr.effect.tick ≢ 0) × HoldsOf m i pr × SettledOf m g i pr
-Ok m g i pr Follow = (pr.cursor.level ≡ 0) × In m g 0 pr.cursor.pred × Unset pr.effect
+abbrev pub AtPhase : Memory → Ghost → ℕ → Process → Phase → Type 0
+AtPhase m g i pr Walk = PlacedOf m g pr × Unset pr.effect
+AtPhase m g i pr Read = FoundOf m pr × (pr.effect.tick ≡ 0)
+AtPhase m g i pr Seek = PlacedOf m g pr × StageOf m g i pr
+AtPhase m g i pr Lock = PlacedOf m g pr × StageOf m g i pr
+AtPhase m g i pr Check = PlacedOf m g pr × StageOf m g i pr × HoldsOf m i pr
+AtPhase m g i pr Update = PlacedOf m g pr × StageOf m g i pr × HoldsOf m i pr × (pr.cursor.level ≡ 0) × TargetOf m pr
+AtPhase m g i pr Make = PlacedOf m g pr × StageOf m g i pr × HoldsOf m i pr × (pr.cursor.level ≡ 0) × ClearOf m pr
+AtPhase m g i pr Link = PlacedOf m g pr × StageOf m g i pr × HoldsOf m i pr × (1 ≤ pr.cursor.level) × ClearOf m pr
+AtPhase m g i pr Release = PlacedOf m g pr × (pr.effect.tick ≢ 0) × HoldsOf m i pr × SettledOf m g i pr
+AtPhase m g i pr Follow = (pr.cursor.level ≡ 0) × In m g 0 pr.cursor.pred × Unset pr.effect
 
 abbrev pub Puts : Process → Type 0
 Puts pr = T (is_put pr.call.kind)
@@ -173,10 +173,10 @@ pub record Fits (m : Memory) (g : Ghost) (i : ℕ) (pr : Process) : Type 0 where
   pub phase : Phase
   pub phase_is : pr.cursor.phase ≡ phase
   pub role : pr.call.kind ≢ Idle → T (plays pr.call.kind (role_of phase))
-  pub ok : pr.call.kind ≢ Idle → Ok m g i pr phase
+  pub ok : pr.call.kind ≢ Idle → AtPhase m g i pr phase
 
 pub fits_at : {m : Memory} {g : Ghost} {i : ℕ} {pr : Process} (ph : Phase) → pr.cursor.phase ≡ ph
-    → T (plays pr.call.kind (role_of ph)) → Ok m g i pr ph → Fits m g i pr
+    → T (plays pr.call.kind (role_of ph)) → AtPhase m g i pr ph → Fits m g i pr
 fits_at ph e r o = record { phase = ph; phase_is = e; role = λ n. r; ok = λ n. o }
 
 -- the put has made node x and is still at work on it

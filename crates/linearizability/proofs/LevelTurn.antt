@@ -5,7 +5,7 @@ use mathlib.Core.Logic.{◌≢◌}
 use mathlib.Core.Path.{◌≡◌, refl}
 use native.Mathlib.Omega.{arith}
 use lib.Dec.{T, eqb, leb, ltb, eqb→eq, leb→le, nleb→lt, ltb→lt, nltb→le}
-use Rattle.linearizability.specs.Types.{Inspecting}
+use Rattle.linearizability.specs.Types.{Inspecting, no_fault, fault_at}
 use Rattle.model.specs.Layout.{Memory, key, top, next, lock}
 use Rattle.model.specs.Inspection.{versions_sound, reaching, level_from}
 use Rattle.model.specs.Soundness.{On}
@@ -13,7 +13,7 @@ use Rattle.model.proofs.Tests.{if-by, neqb→ne, T-absurd}
 use Rattle.model.proofs.Stops.{if-passed, if-met, not-not→}
 
 abbrev pub Faultless : Inspecting → Type 0
-Faultless v = v ≡ Inspecting.Sound
+Faultless v = v ≡ no_fault
 
 module _ (m : Memory) (l : ℕ) where
   abbrev key_of : ℕ → ℕ
@@ -38,7 +38,7 @@ module _ (m : Memory) (l : ℕ) where
     pub ended : to x ≡ 0 → all ≤ seen
     pub onward : to x ≢ 0 → On m l (to x) × (key_of x < key_of (to x)) × Faultless (level_from m l fuel (seen + 1) (to x))
 
-  fault : (x : ℕ) → Faultless (Inspecting.Fault l x) → ⊥
+  fault : (x : ℕ) → Faultless (fault_at l x) → ⊥
   fault x e = let z : ◌≡◌ {A = ℕ} 0 1 = cc in omega arith
 
   pub faultless_turn : (fuel seen x : ℕ) → Faultless (level_from m l (suc fuel) seen x) → Turn fuel seen x

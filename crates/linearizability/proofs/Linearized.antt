@@ -4,7 +4,7 @@ use mathlib.Core.List.{List, [], ◌∷◌, ◌++◌}
 use mathlib.Core.Path.{◌≡◌, refl, sym, ap, ◌∙◌, subst}
 use native.Mathlib.Omega.{arith}
 use lib.ListN.{length, replicate, length-replicate}
-use Rattle.linearizability.specs.Types.{Refusal, Permit, Granted, Denied, Opening}
+use Rattle.linearizability.specs.Types.{Refusal, Permit, Ok, Err, Opening}
 use Rattle.model.specs.Layout.{node_words, version_words, capacity}
 use Rattle.model.specs.Requests.{Fitting}
 use Rattle.model.specs.Calls.{Store, open_due, open_by, open_of, status_of}
@@ -63,8 +63,8 @@ fresh_live g w e = go (open_of g.nodes g.versions g.processes g.limit).result.ou
 
     go : (x : Opening) → (open_of g.nodes g.versions g.processes g.limit).result.outcome ≡ x → opens_by x w₀ ≡ opened w
         → Live (nodes_of g) (versions_of g) w (seen (empty_history (fitting_of g)))
-    go (Opening.Refused x) o q = absurd (refused≢opened x q)
-    go Opening.Opened o q =
+    go (Err x) o q = absurd (refused≢opened x q)
+    go (Ok _) o q =
         let same : w₀ ≡ w = cc in
         subst (λ (v : Store). Live (nodes_of g) (versions_of g) v (seen (empty_history (fitting_of g)))) same
         (opened_live g.nodes g.versions g.processes g.limit o)
@@ -152,7 +152,7 @@ effects_stay g w e actions more =
 
 -- ---- openings
 
-pub asks : (f : Fitting) → open_due f ≡ Granted → (g : Given) × (fitting_of g ≡ f)
+pub asks : (f : Fitting) → open_due f ≡ (Ok tt) → (g : Given) × (fitting_of g ≡ f)
 asks f lawful = (
   record { nodes = replicate f.nodes 0; versions = replicate f.versions 0; processes = f.processes; limit = f.limit },
   ap (λ n. record { nodes = n; versions = length {A = ℕ} (replicate f.versions 0); processes = f.processes; limit = f.limit })
@@ -165,8 +165,8 @@ unfolding open_of
 opens g = go (open_due (fitting_of g))
   where
     go : (d : Permit) → let o = open_by d g.nodes g.versions g.processes g.limit in OpensAs d (opens_by o.result.outcome (fresh_store o))
-    go Granted = unfold open_by in tt
-    go (Denied r) = unfold open_by in refl
+    go (Ok _) = unfold open_by in tt
+    go (Err r) = unfold open_by in refl
 
 -- Demand 3 of the store by value.
 pub linearizable : Linearizable by_value

@@ -16,7 +16,7 @@ use Rattle.model.proofs.Words.{same_key, length_word, word_same, word_node, word
 use Rattle.linearizability.proofs.Level.{Level, inserted, kept}
 use Rattle.linearizability.proofs.Invariant.{Ghost, In, Nodes, Book, At, PlacedOf, Clear, ClearOf, Made, HoldsOf, Stage, StageOf, Puts, fits_at, Climbs, Risen}
 use Rattle.linearizability.proofs.Frame.{Grown, Frame, placed_kept}
-use Rattle.linearizability.proofs.Step.{Good, Result, within_T}
+use Rattle.linearizability.proofs.Step.{Good, GoodStep, within_T}
 use Rattle.linearizability.proofs.Make.{changed, changed_same, changed_other}
 
 module _ (m : Memory) (g : Ghost) (s lv p x k tp : ℕ) (N : Nodes m g) (a : At m g lv p k) (clear : Clear m lv p k)
@@ -223,10 +223,10 @@ module _ (m : Memory) (g : Ghost) (s : ℕ) (pr : Process) (tick : ℕ) (b : Map
         (process_after tick pr (Go (at c Release c.level c.pred))) refl (record { kind = w; answer = ea; made = refl });
   }
 
-  pub link_good : 1 ≤ c.level → StageOf m g s pr → Result m g s pr tick b (link_of c m)
+  pub link_good : 1 ≤ c.level → StageOf m g s pr → GoodStep m g s pr tick b (link_of c m)
   unfolding link_of
   link_good pos st =
       let u = climbing c.level pos st in
-      if-by (Result m g s pr tick b) (used_node m c.made)
+      if-by (GoodStep m g s pr tick b) (used_node m c.made)
       (λ t. linked u.0 u.1 u.2 u.3)
       (λ t. absurd (T-absurd (used_node m c.made) (within_T u.3.pos u.3.used) t))

@@ -8,7 +8,7 @@ use native.Mathlib.Omega.{arith}
 use lib.Dec.{T, eqb, leb, le→leb}
 use lib.ListN.{length, get_or, set, length-append}
 use lib.Seq.{get_or-set_same, get_or-set_other}
-use Rattle.linearizability.specs.Types.{Kind, Idle, Put, Get, Scan, NoProcess, Call, Process, Status}
+use Rattle.linearizability.specs.Types.{Kind, Idle, Put, Get, Scan, NoProcess, Call, Process, Err}
 use Rattle.std.specs.Prelude.{if◌then◌else◌}
 use Rattle.model.specs.Layout.{Memory, node_words, version_words, capacity, top, limits}
 use Rattle.model.specs.Map.{Map}
@@ -153,7 +153,7 @@ status_is {w} c i lt = rw (is_true (lawful_state w.state) (core_state c), not_le
     not_le false e = e
 
 pub status_beyond : {w : Store} {g : Ghost} {b : Map} → Core w g b → (i : ℕ) → w.state.processes ≤ i
-    → status_of w.state i ≡ Status.Refused NoProcess
+    → status_of w.state i ≡ Err NoProcess
 unfolding status_of status_permit status_by
 status_beyond {w} c i le = rw (
   is_true (lawful_state w.state) (core_state c),

@@ -16,7 +16,7 @@ use Rattle.model.proofs.Tests.{if-eq, if-le, if-lt}
 use Rattle.linearizability.proofs.Invariant.{Ghost, Nodes, Book, At, PlacedOf, Made, Stage, StageOf, Settled, SettledOf, HoldsOf, Puts, Fits, fits_at, Climbs}
 use Rattle.linearizability.proofs.Frame.{Grown, Frame, placed_kept, stage_of_kept, stage_kept}
 use Rattle.linearizability.proofs.Alike.{lock_alike, lock_set, lock_book, lock_frame, nodes_kept, grown_alike, risen_alike, risen_same}
-use Rattle.linearizability.proofs.Step.{Does, Good, Result, Related, related, link_in, not_unused, along, level6, idle_fits, still, goes}
+use Rattle.linearizability.proofs.Step.{Does, Good, GoodStep, Related, related, link_in, not_unused, along, level6, idle_fits, still, goes}
 
 module _ (m : Memory) (g : Ghost) (i : ℕ) (pr : Process) (tick : ℕ) (b : Map) (N : Nodes m g) (B : Book m b) where
   abbrev call : Call
@@ -26,7 +26,7 @@ module _ (m : Memory) (g : Ghost) (i : ℕ) (pr : Process) (tick : ℕ) (b : Map
   c = pr.cursor
 
   abbrev R : Moved → Type 0
-  R r = Result m g i pr tick b r
+  R r = GoodStep m g i pr tick b r
 
   -- ---- lock
 

@@ -8,7 +8,7 @@ use native.Mathlib.Omega.{arith}
 use lib.Dec.{T, eqb, leb, leb→le}
 use lib.ListN.{length, get_or, take}
 use lib.Seq.{take_all}
-use Rattle.linearizability.specs.Types.{Version, BadKey, Looking}
+use Rattle.linearizability.specs.Types.{Version, BadKey, Err}
 use Rattle.std.specs.Prelude.{if◌then◌else◌}
 use Rattle.model.specs.Layout.{Memory, limits, key, newest, prev}
 use Rattle.model.specs.Map.{Map, back_in, look_in}
@@ -84,7 +84,7 @@ module _ (m : Memory) (g : Ghost) (b : Map) (N : Nodes m g) (B : Book m b) (k ba
       (λ z a c e. node_right z a (omega arith) e)
 
 pub look_outcome : {from : List Took} {K W : ℕ} {w : Store} {h : Seen} (l : LiveFrom from K W w h) (k back : ℕ)
-    → look_of w.state w.nodes w.versions k back ≡ (if lawful_key k then look_in l.b k back else Looking.Refused BadKey)
+    → look_of w.state w.nodes w.versions k back ≡ (if lawful_key k then look_in l.b k back else Err BadKey)
 unfolding look_of look_permit
 look_outcome {w = w} l k back =
     rw (core_lawful l.core) (by_test (lawful_key k)
@@ -122,7 +122,7 @@ look_live {from} {K} {W} {w} {h} l k back =
         looks = (
           (
             omega (arith, q.ticks, q.one_each),
-            look_outcome l k back ∙ ap (λ (b : Map). if lawful_key k then look_in b k back else Looking.Refused BadKey)
+            look_outcome l k back ∙ ap (λ (b : Map). if lawful_key k then look_in b k back else Err BadKey)
                 (q.book_is ∙ ap (λ es. played K W [] es) (sym whole)),
           ),
           q.looks,

@@ -20,7 +20,7 @@ use Rattle.linearizability.proofs.Level.{Level, absent, inserted, kept}
 use Rattle.linearizability.proofs.MapLaws.{no_entry, held_snoc}
 use Rattle.linearizability.proofs.Invariant.{Ghost, In, Nodes, Chain, Book, At, PlacedOf, Clear, ClearOf, Made, HoldsOf, Puts, fits_at, Climbs, Risen}
 use Rattle.linearizability.proofs.Frame.{Grown, Frame, placed_kept}
-use Rattle.linearizability.proofs.Step.{Good, Result, none_at, no_climb}
+use Rattle.linearizability.proofs.Step.{Good, GoodStep, none_at, no_climb}
 use Rattle.linearizability.proofs.Update.{chain_kept, unwritten}
 
 -- a function changed at one point
@@ -306,10 +306,10 @@ module _ (m : Memory) (g : Ghost) (s : ℕ) (pr : Process) (tick : ℕ) (b : Map
         (process_after tick pr (committed c (m.counts.nodes + 1) New)) (record { kind = w; answer = refl; made = refl }) (λ z k. no_climb ea z k);
   }
 
-  pub make_good : Result m g s pr tick b (make_of pr.call c m)
+  pub make_good : GoodStep m g s pr tick b (make_of pr.call c m)
   unfolding make_of
   make_good =
-      let R = Result m g s pr tick b in
+      let R = GoodStep m g s pr tick b in
       let full = leb (max_nodes m) m.counts.nodes in
       let full-versions = leb (max_versions m) m.counts.versions in
       if-by R full (λ t. unwritten m g s pr tick b N B tick-pos w unset ea q h KeysFull tt (put_says ∙ if_yes full _ _ t)) λ t.

@@ -7,7 +7,7 @@ use mathlib.Core.Path.{◌≡◌, refl, sym, ap, ◌∙◌, subst}
 use native.Mathlib.Omega.{arith}
 use lib.Dec.{T, eqb, leb, leb→le, eqb→eq}
 use lib.ListN.{length, get_or, replicate, length-replicate}
-use Rattle.linearizability.specs.Types.{Idle, Walk, Refusal, Permit, Granted, Denied, Process, Opening}
+use Rattle.linearizability.specs.Types.{Idle, Walk, Refusal, Permit, Ok, Err, Process, Opening}
 use Rattle.model.specs.Layout.{Memory, node_words, version_words, limits, capacity, word, key, top, next, fresh_nodes, link_at, lock_at, node_offsets, top_level}
 use Rattle.model.specs.Map.{held}
 use Rattle.model.specs.State.{idle_process, no_process, fresh_state, within, lawful_length, lawful_nodes, lawful_versions}
@@ -37,11 +37,11 @@ plain false t = t
 in_range : (low high n : ℕ) → T (within low high n) → (low ≤ n) × (n ≤ high)
 in_range low high n t = let q = and→ (leb low n) (leb n high) t in (leb→le low n q.0, leb→le n high q.1)
 
-granted_lawful : (nodes versions : List ℕ) (processes limit : ℕ) → open_permit nodes versions processes limit ≡ Granted
+granted_lawful : (nodes versions : List ℕ) (processes limit : ℕ) → open_permit nodes versions processes limit ≡ (Ok tt)
     → Lawful nodes versions processes limit
 unfolding open_due
 granted_lawful nodes versions processes limit =
-    let P : Permit → Type 0 = λ d. d ≡ Granted → Lawful nodes versions processes limit in
+    let P : Permit → Type 0 = λ d. d ≡ (Ok tt) → Lawful nodes versions processes limit in
     if-by P (not (lawful_nodes (length nodes))) (λ t e. absurd (granted≢denied e)) λ t1.
     if-by P (not (lawful_versions (length versions))) (λ t e. absurd (granted≢denied e)) λ t2.
     if-by P (not (within 1 limits.processes processes)) (λ t e. absurd (granted≢denied e)) λ t3.
@@ -212,19 +212,19 @@ module _ (nodes versions : List ℕ) (processes limit : ℕ) (law : Lawful nodes
 
 -- the store that an accepted opening leaves
 pub opened_live : (nodes versions : List ℕ) (processes limit : ℕ)
-    → (open_of nodes versions processes limit).result.outcome ≡ Opening.Opened
+    → (open_of nodes versions processes limit).result.outcome ≡ (Ok tt)
     → Live (capacity node_words (length nodes)) (capacity version_words (length versions))
     (fresh_store (open_of nodes versions processes limit)) (empty_seen processes limit)
 unfolding open_of
 opened_live nodes versions processes limit = go (open_permit nodes versions processes limit) refl
   where
     go : (d : Permit) → open_permit nodes versions processes limit ≡ d
-        → (open_by d nodes versions processes limit).result.outcome ≡ Opening.Opened
+        → (open_by d nodes versions processes limit).result.outcome ≡ (Ok tt)
         → Live (capacity node_words (length nodes)) (capacity version_words (length versions))
         (fresh_store (open_by d nodes versions processes limit)) (empty_seen processes limit)
-    go (Denied x) e o = absurd (unfold open_by in (refused≢opened x o))
+    go (Err x) e o = absurd (unfold open_by in (refused≢opened x o))
       where
-        refused≢opened : (x : Refusal) → Opening.Refused x ≡ Opening.Opened → ⊥
+        refused≢opened : (x : Refusal) → ◌≡◌ {A = Opening} (Err x) (Ok tt) → ⊥
         refused≢opened x o = let z : ◌≡◌ {A = ℕ} 0 1 = cc in omega arith
-    go Granted e o = unfold open_by in (let law = granted_lawful nodes versions processes limit e in
+    go (Ok _) e o = unfold open_by in (let law = granted_lawful nodes versions processes limit e in
         record { g = g₀ nodes versions processes limit law; b = []; eff = []; core = fresh_core nodes versions processes limit law; hist = fresh_hist nodes versions processes limit law; grows = (omega arith, λ n lt. refl) })

@@ -7,7 +7,7 @@ use mathlib.Core.Path.{◌≡◌, refl, ap, ◌∙◌, subst}
 use native.Mathlib.Omega.{arith}
 use lib.Dec.{T, eqb, lit<}
 use lib.ListN.{take, replicate, length-replicate}
-use Rattle.linearizability.specs.Types.{NodeLength, NoKey, Answer, TooOld, New, Found, None, Busy, Damaged, Version, Granted, Denied, Finish, Starting, Stepping, Looking, Status}
+use Rattle.linearizability.specs.Types.{NodeLength, NoKey, Answer, TooOld, New, Found, None, Busy, Damaged, Version, Ok, Err, Finish, Starting, Stepping, Looking, Status, Progress, idle_status}
 use Rattle.std.specs.Prelude.{if◌then◌else◌}
 use Rattle.model.specs.Layout.{limits}
 use Rattle.model.specs.Numbers.{answer_number, no_version}
@@ -64,11 +64,11 @@ telling f = record { fresh = by_value.fresh; start = by_value.start; tells = f; 
 
 -- a finishing answer replaced
 abbrev finish : (Finish → Finish) → Stepping → Stepping
-finish f (Stepping.Refused r) = Stepping.Refused r
-finish f (Stepping.Moved t) = Stepping.Moved t
-finish f (Stepping.Waited t) = Stepping.Waited t
-finish f (Stepping.Shown t x) = Stepping.Shown t x
-finish f (Stepping.Finished d) = Stepping.Finished (f d)
+finish f (Err r) = Err r
+finish f (Ok (Progress.Moved t)) = Ok (Progress.Moved t)
+finish f (Ok (Progress.Waited t)) = Ok (Progress.Waited t)
+finish f (Ok (Progress.Shown t x)) = Ok (Progress.Shown t x)
+finish f (Ok (Progress.Finished d)) = Ok (Progress.Finished (f d))
 
 abbrev pub finishing : (Finish → Finish) → Change
 finishing f = telling (finish f)
@@ -128,7 +128,7 @@ w₁ = fresh_of (given 1 1)
 -- ---- "A start that always refuses"
 
 abbrev pub always_busy : Change
-always_busy = starting (λ w i op. record { outcome = Starting.Refused Busy; store = w })
+always_busy = starting (λ w i op. record { outcome = Err Busy; store = w })
 
 pub always_busy_refuted : Refutation always_busy
 unfolding said
@@ -138,7 +138,7 @@ always_busy_refuted = record {
   fresh = w₁;
   opens = refl;
   actions = start_get 0 7 ∷ [];
-  refutes = λ c. let d : Denied Busy ≡ Granted = c.beyond.refusals.0 in
+  refutes = λ c. let d : Err Busy ≡ (Ok tt) = c.beyond.refusals.0 in
       let z : ◌≡◌ {A = ℕ} 0 1 = cc in omega arith;
 }
 
@@ -161,7 +161,7 @@ drops_refuted = record {
 -- ---- damage that is none
 
 abbrev pub cries_damage : Change
-cries_damage = starting (λ w i op. record { outcome = Starting.Refused Damaged; store = w })
+cries_damage = starting (λ w i op. record { outcome = Err Damaged; store = w })
 
 pub cries_damage_refuted : Refutation cries_damage
 unfolding said
@@ -194,11 +194,11 @@ abbrev pub tick_ahead : Change
 tick_ahead = telling ahead
   where
     ahead : Stepping → Stepping
-    ahead (Stepping.Refused r) = Stepping.Refused r
-    ahead (Stepping.Moved t) = Stepping.Moved (t + 1)
-    ahead (Stepping.Waited t) = Stepping.Waited t
-    ahead (Stepping.Shown t x) = Stepping.Shown t x
-    ahead (Stepping.Finished d) = Stepping.Finished d
+    ahead (Err r) = Err r
+    ahead (Ok (Progress.Moved t)) = Ok (Progress.Moved (t + 1))
+    ahead (Ok (Progress.Waited t)) = Ok (Progress.Waited t)
+    ahead (Ok (Progress.Shown t x)) = Ok (Progress.Shown t x)
+    ahead (Ok (Progress.Finished d)) = Ok (Progress.Finished d)
 
 pub tick_ahead_refuted : Refutation tick_ahead
 unfolding said
@@ -216,8 +216,8 @@ abbrev pub late : Change
 late = finishing (λ d. told d d.answer (own d) d.finish)
 
 abbrev is_shown : Looking → ℕ
-is_shown (Looking.Refused r) = 0
-is_shown (Looking.Shown v) = 1
+is_shown (Err r) = 0
+is_shown (Ok v) = 1
 
 pub late_refuted : Refutation late
 unfolding said Map.look_in Map.look_list Map.back_in
@@ -267,8 +267,8 @@ abbrev pub equal_dropped : Change
 equal_dropped = record { fresh = by_value.fresh; start = older; tells = finish restored; look = same; status = same; tally = same }
   where
     stamp_is : Looking → ℕ → Bool
-    stamp_is (Looking.Refused r) t = false
-    stamp_is (Looking.Shown v) t = eqb v.timestamp t
+    stamp_is (Err r) t = false
+    stamp_is (Ok v) t = eqb v.timestamp t
 
     older : Store → ℕ → Operation → After Starting Store
     older w i (Requests.put k v t draw) =
@@ -313,7 +313,7 @@ full_early_refuted = record {
 -- ---- a look that never finds a tray
 
 abbrev pub blind : Change
-blind = looking (λ o. Looking.Refused NoKey)
+blind = looking (λ o. Err NoKey)
 
 pub blind_refuted : Refutation blind
 unfolding said Map.look_in Map.look_list Map.back_in
@@ -329,7 +329,7 @@ blind_refuted = record {
 -- ---- standing that shows every process idle
 
 abbrev pub all_idle : Change
-all_idle = standing (λ o. Status.Idle)
+all_idle = standing (λ o. idle_status)
 
 pub all_idle_refuted : Refutation all_idle
 unfolding said

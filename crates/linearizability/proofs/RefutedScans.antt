@@ -4,7 +4,7 @@ use mathlib.Core.List.{◌∷◌, ◌++◌}
 use mathlib.Core.Path.{◌≡◌, refl, ap}
 use native.Mathlib.Omega.{arith}
 use lib.Dec.{lit<, lit≤}
-use Rattle.linearizability.specs.Types.{Swept, Item, Starting, Stepping}
+use Rattle.linearizability.specs.Types.{Swept, Item, Starting, Stepping, Ok, Err, Progress}
 use Rattle.std.specs.Prelude.{if◌then◌else◌}
 use Rattle.model.specs.Numbers.{no_version}
 use Rattle.model.specs.Requests as Requests
@@ -30,11 +30,11 @@ abbrev showing : (Item → Item) → Change
 showing f = telling tells
   where
     tells : Stepping → Stepping
-    tells (Stepping.Refused r) = Stepping.Refused r
-    tells (Stepping.Moved t) = Stepping.Moved t
-    tells (Stepping.Waited t) = Stepping.Waited t
-    tells (Stepping.Shown t x) = Stepping.Shown t (f x)
-    tells (Stepping.Finished d) = Stepping.Finished d
+    tells (Err r) = Err r
+    tells (Ok (Progress.Moved t)) = Ok (Progress.Moved t)
+    tells (Ok (Progress.Waited t)) = Ok (Progress.Waited t)
+    tells (Ok (Progress.Shown t x)) = Ok (Progress.Shown t (f x))
+    tells (Ok (Progress.Finished d)) = Ok (Progress.Finished d)
 
 -- "every tray of the span held at its start was shown": the first key is left out
 abbrev pub first_missed : Change

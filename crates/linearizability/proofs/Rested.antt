@@ -8,7 +8,7 @@ use mathlib.Core.Path.{◌≡◌, refl, sym, ap, ◌∙◌, subst}
 use native.Mathlib.Omega.{arith}
 use lib.Dec.{T}
 use lib.ListN.{get_or}
-use Rattle.linearizability.specs.Types.{Kind, Idle, Put, Get, Scan, Busy, Process, Version, Inspecting, Status}
+use Rattle.linearizability.specs.Types.{Kind, Idle, Put, Get, Scan, Busy, Process, Version, Err, no_fault, idle_status, running_status}
 use Rattle.model.specs.Layout.{Memory, key, newest, top, next, lock, prev, levels}
 use Rattle.model.specs.Map.{Map}
 use Rattle.model.specs.Calls.{Store, standing, status_of}
@@ -78,21 +78,21 @@ module _ {w : Store} {g : Ghost} {b : Map} (k : Core w g b) (idle : (i : ℕ) �
   below_idle zero = refl
   below_idle (suc n) = rw (idle n) (below_idle n)
 
-  idle_inspects : inspect_of w.state w.nodes w.versions ≡ Inspecting.Sound
+  idle_inspects : inspect_of w.state w.nodes w.versions ≡ no_fault
   unfolding inspect_of inspect_permit
   idle_inspects = rw (core_lawful k, below_idle w.state.processes) (unfold inspect_by in (means_sound m rested_sound))
 
-running≢idle : {q : Kind} {s t : ℕ} → Status.Running q s t ≡ Status.Idle → ⊥
+running≢idle : {q : Kind} {s t : ℕ} → running_status q s t ≡ idle_status → ⊥
 running≢idle e = let z : ◌≡◌ {A = ℕ} 0 1 = cc in omega arith
 
 -- standing shows no call at any process, so none runs
 pub idle_sound : {w : Store} {g : Ghost} {b : Map} → Core w g b
-    → ((i : ℕ) → i < w.state.processes → status_of w.state i ≡ Status.Idle)
-    → inspect_of w.state w.nodes w.versions ≡ Inspecting.Sound
+    → ((i : ℕ) → i < w.state.processes → status_of w.state i ≡ idle_status)
+    → inspect_of w.state w.nodes w.versions ≡ no_fault
 idle_sound {w} k f =
     idle_inspects k (λ i. by_le w.state.processes i (k.beyond i) (λ h. shown_idle (slot w i).call.kind (slot w i) (sym (status_is k i h) ∙ f i h)))
   where
-    shown_idle : (kind : Kind) (pr : Process) → standing kind pr ≡ Status.Idle → kind ≡ Idle
+    shown_idle : (kind : Kind) (pr : Process) → standing kind pr ≡ idle_status → kind ≡ Idle
     shown_idle Idle pr e = refl
     shown_idle Put pr e = absurd (unfold standing in (running≢idle e))
     shown_idle Get pr e = absurd (unfold standing in (running≢idle e))
@@ -100,11 +100,11 @@ idle_sound {w} k f =
 
 -- standing shows a call at some process, so the inspection is refused
 pub busy_inspects : {w : Store} {g : Ghost} {b : Map} → Core w g b → (i : ℕ) → i < w.state.processes
-    → status_of w.state i ≢ Status.Idle → inspect_of w.state w.nodes w.versions ≡ Inspecting.Refused Busy
+    → status_of w.state i ≢ idle_status → inspect_of w.state w.nodes w.versions ≡ Err Busy
 unfolding inspect_of inspect_permit idle_below
 busy_inspects {w} k i below ne = rw (core_lawful k, some_busy w.state.processes below) (unfold inspect_by in refl)
   where
-    by_kind : (kind : Kind) (pr : Process) → standing kind pr ≢ Status.Idle → is_idle kind ≡ false
+    by_kind : (kind : Kind) (pr : Process) → standing kind pr ≢ idle_status → is_idle kind ≡ false
     by_kind Idle pr h = absurd (h (unfold standing in refl))
     by_kind Put pr h = refl
     by_kind Get pr h = refl

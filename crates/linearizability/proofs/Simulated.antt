@@ -2,7 +2,7 @@
 use Prim.Native.Nat.{ℕ, suc, ◌*◌}
 use mathlib.Core.List.{List, [], ◌∷◌, ◌++◌}
 use mathlib.Core.Path.{◌≡◌, refl, sym, ap, ◌∙◌, subst}
-use Rattle.linearizability.specs.Types.{Permit, Granted, Denied}
+use Rattle.linearizability.specs.Types.{Permit, Ok, Err}
 use Rattle.model.specs.Requests.{Fitting, Operation}
 use Rattle.model.specs.Calls.{open_due}
 use Rattle.model.specs.System.{Opens, refused, opened, After, System, View, view_of}
@@ -21,7 +21,7 @@ SameOpening R (opened w) (opened x) = R w x
 
 -- `setup` is how the other is opened
 pub record Simulates (S T : System) (setup : S.Setup → T.Setup) (R : S.Carrier → T.Carrier → Type 0) : Type 0 where
-  pub asks : (f : Fitting) → open_due f ≡ Granted → (s : S.Setup) × (S.fitting s ≡ f)
+  pub asks : (f : Fitting) → open_due f ≡ (Ok tt) → (s : S.Setup) × (S.fitting s ≡ f)
   pub fits : (s : S.Setup) → S.fitting s ≡ T.fitting (setup s)
   pub opens : (s : S.Setup) → SameOpening R (S.fresh s) (T.fresh (setup s))
   pub starts : (w : S.Carrier) (x : T.Carrier) → R w x → (i : ℕ) (op : Operation) → Same R (S.start w i op) (T.start x i op)
@@ -95,14 +95,14 @@ module _ (S T : System) (setup : S.Setup → T.Setup) (R : S.Carrier → T.Carri
         }
 
   opens_as : (d : Permit) (a : Opens S.Carrier) (b : Opens T.Carrier) → SameOpening R a b → OpensAs d b → OpensAs d a
-  opens_as Granted (refused r) (refused q) o t = t
-  opens_as Granted (refused r) (opened x) o t = o
-  opens_as Granted (opened w) (refused q) o t = tt
-  opens_as Granted (opened w) (opened x) o t = tt
-  opens_as (Denied d) (refused r) (refused q) o t = o ∙ t
-  opens_as (Denied d) (refused r) (opened x) o t = absurd o
-  opens_as (Denied d) (opened w) (refused q) o t = o
-  opens_as (Denied d) (opened w) (opened x) o t = t
+  opens_as (Ok _) (refused r) (refused q) o t = t
+  opens_as (Ok _) (refused r) (opened x) o t = o
+  opens_as (Ok _) (opened w) (refused q) o t = tt
+  opens_as (Ok _) (opened w) (opened x) o t = tt
+  opens_as (Err d) (refused r) (refused q) o t = o ∙ t
+  opens_as (Err d) (refused r) (opened x) o t = absurd o
+  opens_as (Err d) (opened w) (refused q) o t = o
+  opens_as (Err d) (opened w) (opened x) o t = t
 
   pub simulated : Linearizable T → Linearizable S
   simulated l = record {

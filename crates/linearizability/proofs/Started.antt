@@ -8,7 +8,7 @@ use native.Mathlib.Omega.{arith}
 use lib.Dec.{T, eqb, ltb, leb, leb→le, nleb→lt}
 use lib.ListN.{length, get_or, set, length-set, length-append}
 use lib.Seq.{get_or-set_same, get_or-set_other}
-use Rattle.linearizability.specs.Types.{Idle, Walk, Refusal, Call, Process, Permit, Granted, Denied, Starting}
+use Rattle.linearizability.specs.Types.{Idle, Walk, Refusal, Call, Process, Permit, Ok, Err}
 use Rattle.model.specs.Layout.{limits, levels, top_level}
 use Rattle.model.specs.Numbers.{number_of}
 use Rattle.model.specs.Roles.{is_put}
@@ -28,15 +28,15 @@ use Rattle.linearizability.proofs.Scanning.{Scanning, ReachedBy}
 use Rattle.model.proofs.Seen.{Seen, is_denied, is_granted, saw_refusal, saw_start, seen_due, tick_of, unless}
 
 -- what is refused is what is due
-pub due_denied : {from : List Took} {K W : ℕ} {w : Store} {h : Seen} (d : Permit) (r : Refusal) → d ≡ Denied r → LiveFrom from K W w h
+pub due_denied : {from : List Took} {K W : ℕ} {w : Store} {h : Seen} (d : Permit) (r : Refusal) → d ≡ Err r → LiveFrom from K W w h
     → LiveFrom from K W w (saw_refusal h (is_denied d r))
 due_denied d r e l = refused_live (is_denied d r) (subst (λ q. T (is_denied q r)) (sym e) (eq→eqb (number_of r) (number_of r) refl)) l
 
 -- and an event that is due, with the right tick, is no fault
-pub no_fault : (d : Permit) (t n : ℕ) → d ≡ Granted → t ≡ n → unless (is_granted d && eqb t n) ≡ 0
-no_fault d t n e q = rw (e, Rattle.model.proofs.Tests.is_true (eqb t n) (eq→eqb t n q))
+pub faultless : (d : Permit) (t n : ℕ) → d ≡ (Ok tt) → t ≡ n → unless (is_granted d && eqb t n) ≡ 0
+faultless d t n e q = rw (e, Rattle.model.proofs.Tests.is_true (eqb t n) (eq→eqb t n q))
 
-pub granted≢denied : {r : Refusal} → Denied r ≡ Granted → ⊥
+pub granted≢denied : {r : Refusal} → ◌≡◌ {A = Permit} (Err r) (Ok tt) → ⊥
 granted≢denied e = let z : ◌≡◌ {A = ℕ} 0 1 = cc in omega arith
 
 pub record Allowed (h : Seen) (i : ℕ) (op : Operation) : Type 0 where
@@ -45,10 +45,10 @@ pub record Allowed (h : Seen) (i : ℕ) (op : Operation) : Type 0 where
   pub free : h.pending i ≡ no_call
   pub time : length h.log < h.limit
 
-allowed : (h : Seen) (i : ℕ) (op : Operation) → seen_due h (start i op) ≡ Granted → Allowed h i op
+allowed : (h : Seen) (i : ℕ) (op : Operation) → seen_due h (start i op) ≡ (Ok tt) → Allowed h i op
 unfolding due
 allowed h i op =
-    let P : Permit → Type 0 = λ d. d ≡ Granted → Allowed h i op in
+    let P : Permit → Type 0 = λ d. d ≡ (Ok tt) → Allowed h i op in
     let k = first_of op in
     if-by P (leb h.processes i) (λ t e. absurd (granted≢denied e)) λ t1.
     if-by P (not (lawful_key k && lawful_key (last_of op))) (λ t e. absurd (granted≢denied e)) λ t2.
@@ -199,8 +199,8 @@ module _ {from : List Took} {K W : ℕ} {w : Store} {h : Seen} (l : LiveFrom fro
           },
         )
 
-    start_hist : seen_due h (start i op) ≡ Granted
-        → Hist K W (with_state w (with_event w.state i w.state.counts (begun call))) (saw_start h i op (Starting.Started (w.state.events + 1)))
+    start_hist : seen_due h (start i op) ≡ (Ok tt)
+        → Hist K W (with_state w (with_event w.state i w.state.counts (begun call))) (saw_start h i op (Ok (w.state.events + 1)))
         l.b (l.eff ++ (nothing ∷ []))
     unfolding saw_start fed
     start_hist granted =
@@ -236,7 +236,7 @@ module _ {from : List Took} {K W : ℕ} {w : Store} {h : Seen} (l : LiveFrom fro
           );
           few = omega (arith, q.few);
           no_faults =
-              omega (arith, q.faults, no_fault (seen_due h (start i op)) (w.state.events + 1) (tick_of h) granted (omega (arith, q.ticks)));
+              omega (arith, q.faults, faultless (seen_due h (start i op)) (w.state.events + 1) (tick_of h) granted (omega (arith, q.ticks)));
           past = λ j c ks. by_eq j i
               (λ e. all_map (λ d s r. omega (
                 arith,
@@ -254,6 +254,6 @@ module _ {from : List Took} {K W : ℕ} {w : Store} {h : Seen} (l : LiveFrom fro
     where
       go : (d : Permit) → seen_due h (start i op) ≡ d
           → let o = start_by d w.state i call in LiveFrom from K W (with_state w o.state) (saw_start h i op o.outcome)
-      go (Denied r) e = unfold start_by saw_start in (due_denied (seen_due h (start i op)) r e l)
-      go Granted e = unfold start_by in (let al = allowed h i op e in
+      go (Err r) e = unfold start_by saw_start in (due_denied (seen_due h (start i op)) r e l)
+      go (Ok _) e = unfold start_by in (let al = allowed h i op e in
           record { g = l.g; b = l.b; eff = l.eff ++ (nothing ∷ []); core = start_core al; hist = start_hist al e; grows = grows_on from l.eff nothing l.grows })

@@ -55,8 +55,8 @@ pub record Good (m : Memory) (g : Ghost) (i : ℕ) (pr : Process) (tick : ℕ) (
   pub does : Does m pr tick b b' v
   pub risen : Risen m m' g g' pr (process_after tick pr v)
 
-abbrev pub Result : Memory → Ghost → ℕ → Process → (tick : ℕ) → Map → Moved → Type 0
-Result m g i pr tick b r = Good m g i pr tick b r.move r.memory
+abbrev pub GoodStep : Memory → Ghost → ℕ → Process → (tick : ℕ) → Map → Moved → Type 0
+GoodStep m g i pr tick b r = Good m g i pr tick b r.move r.memory
 
 -- ---- what the comparison found
 

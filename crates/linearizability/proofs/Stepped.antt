@@ -9,7 +9,7 @@ use native.Mathlib.Omega.{arith}
 use lib.Dec.{T, eqb, leb, nleb→lt}
 use lib.ListN.{length, get_or, set, length-set, length-append}
 use lib.Seq.{get_or-set_same, get_or-set_other}
-use Rattle.linearizability.specs.Types.{Idle, Answer, Call, Cursor, Process, Version, Item, Permit, Granted, Denied, Move, Refuse, Wait, Go, Note, Commit, Show, End}
+use Rattle.linearizability.specs.Types.{Idle, Answer, Call, Cursor, Process, Version, Item, Permit, Ok, Err, Move, Refuse, Wait, Go, Note, Commit, Show, End}
 use Rattle.model.specs.Layout.{Memory, limits, levels}
 use Rattle.model.specs.Map.{Map, put_in, PutResult, Reply, get_from, applied, Applied}
 use Rattle.model.specs.Map as Seq
@@ -32,7 +32,7 @@ use Rattle.linearizability.proofs.Tallied.{tally_counts}
 use Rattle.linearizability.proofs.Effects.{Took, nothing, took, fed, played, nothing≢took, grows_on, Entered, EndedIn, shown_grow, entered_grow, entered_now}
 use Rattle.linearizability.proofs.Scanning.{Scanning, KeysStay, scanning_near, scanning_shown, scanning_ends}
 use Rattle.linearizability.proofs.Live.{memory, slot, Core, kept_of, Hist, LiveFrom, event_hist, done_grow, slot_same, core_lawful, one_busy, none_busy, busy_set, kept_kind, kind≢idle, idle_free, has_injective, updated_same, updated_other}
-use Rattle.linearizability.proofs.Started.{due_denied, no_fault, granted≢denied, kept_key, kept_last, kept_start}
+use Rattle.linearizability.proofs.Started.{due_denied, faultless, granted≢denied, kept_key, kept_last, kept_start}
 use Rattle.model.proofs.Seen.{Seen, is_granted, saw_step, seen_due, tick_of, unless}
 
 -- ---- what the map makes of the call that a process keeps
@@ -61,10 +61,10 @@ record Allowed (h : Seen) (i : ℕ) : Type 0 where
   pub has : h.pending i ≡ has_call call
   pub time : length h.log < h.limit
 
-allowed : (h : Seen) (i : ℕ) → seen_due h (step i) ≡ Granted → Allowed h i
+allowed : (h : Seen) (i : ℕ) → seen_due h (step i) ≡ (Ok tt) → Allowed h i
 unfolding due
 allowed h i =
-    let P : Permit → Type 0 = λ d. d ≡ Granted → Allowed h i in
+    let P : Permit → Type 0 = λ d. d ≡ (Ok tt) → Allowed h i in
     if-by P (leb h.processes i) (λ t e. absurd (granted≢denied e)) λ t1.
     if-by P (is_free (h.pending i)) (λ t e. absurd (granted≢denied e)) λ t2.
     if-by P (leb h.limit (length h.log)) (λ t e. absurd (granted≢denied e)) λ t3 e. go t1 t3 (h.pending i) refl t2
@@ -82,7 +82,7 @@ entered_cast : {K W : ℕ} {log : List Action} {eff : List Took} {i : ℕ} {c : 
 entered_cast {K} {W} {log} {eff} {i} {c} {t} {t'} {r} {r'} p q h =
     subst (λ z. Entered K W log eff i c z r') p (subst (λ z. Entered K W log eff i c t z) q h)
 
-module _ {from : List Took} {K W : ℕ} {w : Store} {h : Seen} (l : LiveFrom from K W w h) (i : ℕ) (granted : seen_due h (step i) ≡ Granted) where
+module _ {from : List Took} {K W : ℕ} {w : Store} {h : Seen} (l : LiveFrom from K W w h) (i : ℕ) (granted : seen_due h (step i) ≡ (Ok tt)) where
   abbrev pr : Process
   pr = slot w i
 
@@ -129,7 +129,7 @@ module _ {from : List Took} {K W : ℕ} {w : Store} {h : Seen} (l : LiveFrom fro
   tick_is = omega (arith, l.hist.ticks)
 
   no_faults : faults ≡ 0
-  no_faults = omega (arith, l.hist.faults, no_fault (seen_due h (step i)) tick (tick_of h) granted tick_is)
+  no_faults = omega (arith, l.hist.faults, faultless (seen_due h (step i)) tick (tick_of h) granted tick_is)
 
   begun : c₀.start ≤ length h.log
   begun = omega (arith, (l.hist.track i).begun, start_is)
@@ -560,5 +560,5 @@ step_live {from} {K} {W} {w} {h} l i = rw due (go (seen_due h (step i)) refl)
         ) refl)
 
     go : (d : Permit) → seen_due h (step i) ≡ d → LiveFrom from K W (step_by d w i r).store (saw_step h i (step_by d w i r).outcome)
-    go (Denied n) e = unfold step_by saw_step in (due_denied (seen_due h (step i)) n e l)
-    go Granted e = unfold step_by in (granted_live l i e)
+    go (Err n) e = unfold step_by saw_step in (due_denied (seen_due h (step i)) n e l)
+    go (Ok _) e = unfold step_by in (granted_live l i e)

@@ -5,7 +5,7 @@ use mathlib.Core.Logic.{inl, inr}
 use mathlib.Core.Path.{◌≡◌, refl, ◌∙◌}
 use native.Mathlib.Omega.{arith}
 use lib.Dec.{T, eqb, ltb, leb, leb→le}
-use Rattle.linearizability.specs.Types.{Phase, Walk, Read, Seek, Lock, Check, Update, Make, Link, Release, Follow, Call, Cursor, Process, Ahead, Unused, Less, Equal, Past, Move, Refuse, Wait, Go, Note, Commit, Show, End, Permit, Granted, Denied}
+use Rattle.linearizability.specs.Types.{Phase, Walk, Read, Seek, Lock, Check, Update, Make, Link, Release, Follow, Call, Cursor, Process, Ahead, Unused, Less, Equal, Past, Move, Refuse, Wait, Go, Note, Commit, Show, End, Permit, Ok, Err}
 use Rattle.model.specs.Layout.{Memory, top_level, word, field, newest, next, lock, timestamp, with_next, with_node, node_words, link_at, lock_at}
 use Rattle.model.specs.State.{process_at, memory_of}
 use Rattle.model.specs.Phases.{Moved, moved, refuses, own_version, used_node, used_version, max_nodes, max_versions, with_holder, lock_of, check_by, check_of, add_version, update_node, update_at, update_of, add_node, make_of, add_link, link_of, freed, release_of, lawful_process, phase_of, transition_of, released, ahead_of}
@@ -137,13 +137,13 @@ step_spares w i =
         → Spares p₀.cursor.phase p₀.cursor (memory_of w.state w.nodes w.versions) m
         → Spares p₀.cursor.phase p₀.cursor (memory_of w.state w.nodes w.versions)
         (memory_of w.state (step_by d w i (moved m v)).store.nodes (step_by d w i (moved m v)).store.versions)
-    by_permit (Denied n) v m k =
+    by_permit (Err n) v m k =
         unfold step_by in (untouched p₀.cursor.phase p₀.cursor (memory_of w.state w.nodes w.versions))
-    by_permit Granted Refuse m k =
+    by_permit (Ok _) Refuse m k =
         unfold step_by in (untouched p₀.cursor.phase p₀.cursor (memory_of w.state w.nodes w.versions))
-    by_permit Granted Wait m k = unfold step_by in (record { nodes = k.nodes; versions = k.versions })
-    by_permit Granted (Go c) m k = unfold step_by in (record { nodes = k.nodes; versions = k.versions })
-    by_permit Granted (Note c) m k = unfold step_by in (record { nodes = k.nodes; versions = k.versions })
-    by_permit Granted (Commit c a) m k = unfold step_by in (record { nodes = k.nodes; versions = k.versions })
-    by_permit Granted (Show c x) m k = unfold step_by in (record { nodes = k.nodes; versions = k.versions })
-    by_permit Granted (End a v e) m k = unfold step_by in (record { nodes = k.nodes; versions = k.versions })
+    by_permit (Ok _) Wait m k = unfold step_by in (record { nodes = k.nodes; versions = k.versions })
+    by_permit (Ok _) (Go c) m k = unfold step_by in (record { nodes = k.nodes; versions = k.versions })
+    by_permit (Ok _) (Note c) m k = unfold step_by in (record { nodes = k.nodes; versions = k.versions })
+    by_permit (Ok _) (Commit c a) m k = unfold step_by in (record { nodes = k.nodes; versions = k.versions })
+    by_permit (Ok _) (Show c x) m k = unfold step_by in (record { nodes = k.nodes; versions = k.versions })
+    by_permit (Ok _) (End a v e) m k = unfold step_by in (record { nodes = k.nodes; versions = k.versions })

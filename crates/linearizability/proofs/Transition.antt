@@ -11,8 +11,8 @@ use Rattle.model.specs.Map.{Map}
 use Rattle.model.specs.Phases.{Moved, no_effect, lawful_effect, lawful_at, lawful_process, phase_of, transition_of}
 use Rattle.model.specs.Roles.{is_put, role_of, plays, put_class, class_of, from_put}
 use Rattle.model.proofs.Tests.{if-by, is_true, T-absurd, eq→eqb}
-use Rattle.linearizability.proofs.Invariant.{Ghost, Nodes, Book, At, Stage, StageOf, Settled, Ok, Scans, Fits}
-use Rattle.linearizability.proofs.Step.{Result, walk_good, read_good, seek_good}
+use Rattle.linearizability.proofs.Invariant.{Ghost, Nodes, Book, At, Stage, StageOf, Settled, AtPhase, Scans, Fits}
+use Rattle.linearizability.proofs.Step.{GoodStep, walk_good, read_good, seek_good}
 use Rattle.linearizability.proofs.Locking.{lock_good, check_good, release_good}
 use Rattle.linearizability.proofs.Update.{update_good}
 use Rattle.linearizability.proofs.Make.{make_good}
@@ -28,7 +28,7 @@ module _ (m : Memory) (g : Ghost) (i : ℕ) (pr : Process) (tick : ℕ) (b : Map
   at_basic : At m g pr.cursor.level pr.cursor.pred pr.call.key → Basic
   at_basic a = (omega (arith, a.up, N.high pr.cursor.pred a.used), a.used)
 
-  ok_basic : (ph : Phase) → Ok m g i pr ph → Basic
+  ok_basic : (ph : Phase) → AtPhase m g i pr ph → Basic
   ok_basic Walk c = at_basic c.0.spot
   ok_basic Read c = (omega (arith, c.0.low), c.0.used)
   ok_basic Seek c = at_basic c.0.spot
@@ -68,7 +68,7 @@ module _ (m : Memory) (g : Ghost) (i : ℕ) (pr : Process) (tick : ℕ) (b : Map
   stage_right zero c = unset_right (from_put pr.effect.answer) c.0
   stage_right (suc l) c = or_right (no_effect pr.effect) (from_put pr.effect.answer) (rw c.1 tt)
 
-  effect_right : (ph : Phase) → Ok m g i pr ph → T (lawful_effect pr.call.kind (role_of ph) pr.effect)
+  effect_right : (ph : Phase) → AtPhase m g i pr ph → T (lawful_effect pr.call.kind (role_of ph) pr.effect)
   effect_right Walk c = unset_right (is_put pr.call.kind && from_put pr.effect.answer) c.1.0
   effect_right Read c = eq→eqb pr.effect.tick 0 c.1
   effect_right Seek c = stage_right pr.cursor.level c.1
@@ -99,8 +99,8 @@ module _ (m : Memory) (g : Ghost) (i : ℕ) (pr : Process) (tick : ℕ) (b : Map
   stage₀ el c = subst (λ l. Stage m g i pr.effect pr.call.top pr.cursor.made pr.call.key l) el c
 
   phase_good : (ph : Phase) → tick ≢ 0 → pr.cursor.phase ≡ ph → pr.call.kind ≢ Idle
-      → T (plays pr.call.kind (role_of ph)) → Ok m g i pr ph
-      → Result m g i pr tick b (phase_of ph (i + 1) tick pr m)
+      → T (plays pr.call.kind (role_of ph)) → AtPhase m g i pr ph
+      → GoodStep m g i pr tick b (phase_of ph (i + 1) tick pr m)
   unfolding phase_of
   phase_good Walk tp ep nn w c = walk_good m g i pr tick b N B nn c.0 c.1
   phase_good Read tp ep nn w c = read_good m g i pr tick b N B w c.0 c.1
@@ -115,10 +115,10 @@ module _ (m : Memory) (g : Ghost) (i : ℕ) (pr : Process) (tick : ℕ) (b : Map
   phase_good Release tp ep nn w c = release_good m g i pr tick b N B w c.1 c.0 c.2 c.3
   phase_good Follow tp ep nn w c = (follow_good m g i pr tick b N B w c.0 c.1 c.2).0
 
-  pub transition_good : tick ≢ 0 → Fits m g i pr → pr.call.kind ≢ Idle → Result m g i pr tick b (transition_of (i + 1) tick pr m)
+  pub transition_good : tick ≢ 0 → Fits m g i pr → pr.call.kind ≢ Idle → GoodStep m g i pr tick b (transition_of (i + 1) tick pr m)
   unfolding transition_of
-  transition_good tp f nn = if-by (Result m g i pr tick b) (lawful_process pr m)
-      (λ t. subst (λ ph. Result m g i pr tick b (phase_of ph (i + 1) tick pr m)) (sym f.phase_is)
+  transition_good tp f nn = if-by (GoodStep m g i pr tick b) (lawful_process pr m)
+      (λ t. subst (λ ph. GoodStep m g i pr tick b (phase_of ph (i + 1) tick pr m)) (sym f.phase_is)
       (phase_good f.phase tp f.phase_is nn (f.role nn) (f.ok nn)))
       (λ t. absurd (T-absurd (lawful_process pr m) (lawful f nn) t))
 
@@ -127,6 +127,6 @@ module _ (m : Memory) (g : Ghost) (i : ℕ) (pr : Process) (tick : ℕ) (b : Map
   unfolding transition_of phase_of
   transition_scans f nn s = if-by (λ (r : Moved). ScanDoes m pr b r.move) (lawful_process pr m)
       (λ t. subst (λ ph. ScanDoes m pr b (phase_of ph (i + 1) tick pr m).move) (sym f.phase_is)
-      (scan_by (λ ph. Ok m g i pr ph → ScanDoes m pr b (phase_of ph (i + 1) tick pr m).move) pr.call.kind f.phase s (f.role nn)
+      (scan_by (λ ph. AtPhase m g i pr ph → ScanDoes m pr b (phase_of ph (i + 1) tick pr m).move) pr.call.kind f.phase s (f.role nn)
       (λ c. walk_scans m g i pr tick b N B s c.0) (λ c. (follow_good m g i pr tick b N B s c.0 c.1 c.2).1) (f.ok nn)))
       (λ t. absurd (T-absurd (lawful_process pr m) (lawful f nn) t))

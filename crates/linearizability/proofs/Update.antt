@@ -21,7 +21,7 @@ use Rattle.linearizability.proofs.MapLaws.{no_entry, First, versions_first, push
 use Rattle.linearizability.proofs.Invariant.{Ghost, In, Nodes, Chain, Below, Book, PlacedOf, Target, TargetOf, HoldsOf, Settled, Puts, fits_at}
 use Rattle.linearizability.proofs.Frame.{Frame, placed_kept, held_kept}
 use Rattle.linearizability.proofs.Alike.{Alike, nodes_kept, frame_alike, risen_alike, alike_refl}
-use Rattle.linearizability.proofs.Step.{Good, Result, still, first_at, no_climb, within_T}
+use Rattle.linearizability.proofs.Step.{Good, GoodStep, still, first_at, no_climb, within_T}
 
 -- a chain is kept where the versions in use are
 pub chain_kept : (t t' : List ℕ) (n n' : ℕ) → n ≤ n' → ((i f : ℕ) → i ≤ n → f < 3 → field t' i f ≡ field t i f)
@@ -201,10 +201,10 @@ module _ (m : Memory) (g : Ghost) (s : ℕ) (pr : Process) (tick : ℕ) (b : Map
           risen = risen_alike a (λ y u k. absurd (no_climb ea y k));
         }
 
-    node_good : Result m g s pr tick b (update_node call c (suc j) (newest m.nodes (suc j)) m)
+    node_good : GoodStep m g s pr tick b (update_node call c (suc j) (newest m.nodes (suc j)) m)
     unfolding update_node
     node_good =
-        let R = Result m g s pr tick b in
+        let R = GoodStep m g s pr tick b in
         let old = ltb call.timestamp (timestamp m.versions (newest m.nodes (suc j))) in
         let full = leb (max_versions m) m.counts.versions in
         if-by R old (λ t. unwritten TooOld tt (put_says ∙ if_yes old _ _ t)) λ t.
@@ -212,21 +212,21 @@ module _ (m : Memory) (g : Ghost) (s : ℕ) (pr : Process) (tick : ℕ) (b : Map
         written (lib.Dec.nleb→lt (max_versions m) m.counts.versions u) (lib.Dec.nltb→le call.timestamp (timestamp m.versions (newest m.nodes (suc j))) t)
         (put_says ∙ if_no old _ _ t ∙ if_no full _ _ u)
 
-    pub at_good : Result m g s pr tick b (update_at call c (suc j) m)
+    pub at_good : GoodStep m g s pr tick b (update_at call c (suc j) m)
     unfolding update_at
     at_good =
-        let R = Result m g s pr tick b in
+        let R = GoodStep m g s pr tick b in
         let p = B.places j (omega arith) in
         if-by R (not (used_node m (suc j))) (λ t. absurd (T-absurd (used_node m (suc j)) (within_T (omega arith) used) t)) λ t.
         if-by R (not (used_version m (newest m.nodes (suc j)))) (λ u. absurd (T-absurd (used_version m (newest m.nodes (suc j))) (within_T p.0 p.1) u)) λ u.
         node_good
 
-  pub update_good : c.level ≡ 0 → TargetOf m pr → Result m g s pr tick b (update_of call c m)
+  pub update_good : c.level ≡ 0 → TargetOf m pr → GoodStep m g s pr tick b (update_of call c m)
   unfolding update_of
   update_good el t =
       let t₀ = subst (λ l. Target m l c.pred call.key) el t in by_node (next m.nodes 0 c.pred) t₀.some t₀.used t₀.key_is
     where
       by_node : (y : ℕ) → y ≢ 0 → y ≤ m.counts.nodes → key m.nodes y ≡ call.key
-          → Result m g s pr tick b (update_at call c y m)
+          → GoodStep m g s pr tick b (update_at call c y m)
       by_node zero n u k = absurd (n refl)
       by_node (suc j) n u k = at_good j u k

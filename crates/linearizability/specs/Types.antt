@@ -24,16 +24,10 @@ pub use Rattle.model.specs.declared.types.Ahead.{Ahead}
 pub use Rattle.model.specs.declared.types.Ahead.TheVariants.{Unused, Less, Equal, Past}
 pub use Rattle.model.specs.declared.types.Move.{Move}
 pub use Rattle.model.specs.declared.types.Move.TheVariants.{Refuse, Wait, Go, Note, Commit, Show, End}
-pub use Rattle.model.specs.declared.types.Permit.{Permit}
-pub use Rattle.model.specs.declared.types.Permit.TheVariants.{Granted, Denied}
 pub use Rattle.model.specs.declared.types.Finish.{Finish}
-pub use Rattle.model.specs.declared.types.Opening.{Opening}
-pub use Rattle.model.specs.declared.types.OpenResult.{OpenResult}
-pub use Rattle.model.specs.declared.types.Starting.{Starting}
-pub use Rattle.model.specs.declared.types.StartResult.{StartResult}
-pub use Rattle.model.specs.declared.types.Stepping.{Stepping}
-pub use Rattle.model.specs.declared.types.StepResult.{StepResult}
-pub use Rattle.model.specs.declared.types.Looking.{Looking}
-pub use Rattle.model.specs.declared.types.Inspecting.{Inspecting}
-pub use Rattle.model.specs.declared.types.Status.{Status}
 pub use Rattle.model.specs.declared.types.Limits.{Limits}
+pub use Rattle.model.specs.declared.types.Progress.{Progress}
+pub use Rattle.model.specs.declared.types.Fault.{Fault}
+pub use Rattle.model.specs.declared.types.Running.{Running}
+pub use Rattle.model.specs.Types.{Permit, Opening, OpenResult, Starting, StartResult, Stepping, StepResult, Looking, Inspecting, Status, no_fault, fault_at, idle_status, running_status}
+pub use Rattle.std.specs.Prelude.{Ok, Err, Option, Some}

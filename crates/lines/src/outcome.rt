@@ -1,16 +1,19 @@
-// Which line the outcome of each call prints.
+// Which line the outcome of each call prints. No `From`: outcomes and lines are types of other crates, and most lines name operands too. A match
+// in each, since only the refusals' arm is common to them.
 ghost use Rattle.std.specs.Prelude.{◌≡◌};
 ghost use Rattle.lines.specs.Outcomes.{open_line, start_line, step_line, look_line, inspect_line};
 
-use model::types::{Inspecting, Key, Looking, Opening, Starting, Stepping};
+use model::types::{
+    Fault, Inspecting, Key, Looking, Opening, Progress, Starting, Stepping, Version,
+};
 use printer::types::Line;
 
 pub fn of_open(keys: u32, versions: u32, processes: u32, limit: u32, outcome: Opening) -> Line
     ensures { result ≡ open_line keys versions processes limit outcome }
 {
     match outcome {
-        Opening::Refused(refusal) => Line::Refused(refusal),
-        Opening::Opened => Line::Opened {
+        Err(refusal) => Line::Refused(refusal),
+        Ok(()) => Line::Opened {
             keys,
             versions,
             processes,
@@ -23,8 +26,8 @@ pub fn of_start(process: u32, outcome: Starting) -> Line
     ensures { result ≡ start_line process outcome }
 {
     match outcome {
-        Starting::Refused(refusal) => Line::Refused(refusal),
-        Starting::Started(tick) => Line::Started { process, tick },
+        Err(refusal) => Line::Refused(refusal),
+        Ok(tick) => Line::Started { process, tick },
     }
 }
 
@@ -32,11 +35,11 @@ pub fn of_step(process: u32, outcome: Stepping) -> Line
     ensures { result ≡ step_line process outcome }
 {
     match outcome {
-        Stepping::Refused(refusal) => Line::Refused(refusal),
-        Stepping::Moved(tick) => Line::Stepped { process, tick },
-        Stepping::Waited(tick) => Line::Waited { process, tick },
-        Stepping::Shown(tick, _) => Line::Stepped { process, tick },
-        Stepping::Finished(finish) => Line::Done { process, finish },
+        Err(refusal) => Line::Refused(refusal),
+        Ok(Progress::Moved(tick)) => Line::Stepped { process, tick },
+        Ok(Progress::Waited(tick)) => Line::Waited { process, tick },
+        Ok(Progress::Shown(tick, _)) => Line::Stepped { process, tick },
+        Ok(Progress::Finished(finish)) => Line::Done { process, finish },
     }
 }
 
@@ -44,12 +47,12 @@ pub fn of_look(key: Key, back: u32, outcome: Looking) -> Line
     ensures { result ≡ look_line key back outcome }
 {
     match outcome {
-        Looking::Refused(refusal) => Line::Refused(refusal),
-        Looking::Shown(version) => Line::Looked {
+        Err(refusal) => Line::Refused(refusal),
+        Ok(Version { value, timestamp }) => Line::Looked {
             key,
             back,
-            value: version.value,
-            timestamp: version.timestamp,
+            value,
+            timestamp,
         },
     }
 }
@@ -58,8 +61,8 @@ pub fn of_inspect(outcome: Inspecting) -> Line
     ensures { result ≡ inspect_line outcome }
 {
     match outcome {
-        Inspecting::Refused(refusal) => Line::Refused(refusal),
-        Inspecting::Sound => Line::Sound,
-        Inspecting::Fault(level, node) => Line::Fault { level, node },
+        Err(refusal) => Line::Refused(refusal),
+        Ok(None) => Line::Sound,
+        Ok(Some(Fault { level, node })) => Line::Fault { level, node },
     }
 }

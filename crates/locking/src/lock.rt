@@ -1,6 +1,7 @@
-// Lock, check and release: the steps that take and free a lock.
+// Lock, check and release: the steps that take and free a lock. They are lent the node table alone, where a `Memory` would ask for
+// both: docs/TRACE.md names each of them.
 ghost use Rattle.std.specs.Prelude.{◌≡◌, List, ℕ};
-ghost use Rattle.phases.specs.Types.{Counts};
+ghost use Rattle.model.specs.declared.types.Counts.{Counts};
 ghost use Rattle.model.specs.Phases.{moved, lock_of, checked, check_of, rise, released, release_of};
 ghost use Rattle.tables.specs.Room.{LevelRoom, memory, nodes_in};
 ghost use Rattle.phases.specs.Ready.{Ready};
@@ -17,23 +18,19 @@ pub fn acquire(c: Cursor, holder: u32, nodes: &mut [u32]) -> Move
     ensures { (versions : List ℕ) (counts : Counts) → moved (memory nodes.new versions counts) result
         ≡ lock_of c holder (memory nodes.old versions counts) }
 {
-    if lock_at(nodes, c.level, c.pred) == 0 {
-        set_lock(nodes, c.level, c.pred, holder);
-        go(c, Phase::Check, c.level, c.pred)
-    } else {
-        Move::Wait
+    if lock_at(nodes, c.level, c.pred) != 0 {
+        return Move::Wait;
     }
+    set_lock(nodes, c.level, c.pred, holder);
+    go(c, Phase::Check, c.level, c.pred)
 }
 
 // The place is right: on to the phase given at level 0, to link above it.
 fn settle(c: Cursor, bottom: Phase) -> Move
     ensures { result ≡ checked c bottom }
 {
-    if c.level == 0 {
-        go(c, bottom, c.level, c.pred)
-    } else {
-        go(c, Phase::Link, c.level, c.pred)
-    }
+    let phase = if c.level == 0 { bottom } else { Phase::Link };
+    go(c, phase, c.level, c.pred)
 }
 
 #[tactic(auto, unfolding(model::specs::Phases::check_by, model::specs::Phases::check_of))]
@@ -42,8 +39,7 @@ pub fn check(call: Call, c: Cursor, used: u32, nodes: &mut [u32]) -> Move
     ensures { (versions : List ℕ) (n : ℕ) → moved (nodes_in nodes.new used versions n) result
         ≡ check_of call c (nodes_in nodes.old used versions n) }
 {
-    let a = ahead(nodes, used, c.level, c.pred, call.key);
-    match a {
+    match ahead(nodes, used, c.level, c.pred, call.key) {
         Ahead::Unused => Move::Refuse,
         Ahead::Less(y) => {
             set_lock(nodes, c.level, c.pred, 0);
@@ -66,27 +62,23 @@ fn rise(call: Call, c: Cursor, used: u32, preds: [u32; State::LEVELS], otherwise
         return otherwise;
     }
     let up = c.level + 1;
-    let l = up as usize;
-    let pred = preds[l];
+    let pred = preds[up as usize];
     if used < pred {
-        Move::Refuse
-    } else {
-        go(c, Phase::Seek, up, pred)
+        return Move::Refuse;
     }
+    go(c, Phase::Seek, up, pred)
 }
 
 #[tactic(auto, unfolding(model::specs::Phases::released))]
 fn released(call: Call, c: Cursor, e: Effect, used: u32, preds: [u32; State::LEVELS]) -> Move
     ensures { (nodes versions : List ℕ) (n : ℕ) → result ≡ released call c e preds (nodes_in nodes used versions n) }
 {
-    let answer = e.answer;
     let own = Version {
         value: call.value,
         timestamp: call.timestamp,
     };
-    let version = version_with(answer, own);
-    let end = Move::End(answer, version, e.tick);
-    if is_new(answer) {
+    let end = Move::End(e.answer, version_with(e.answer, own), e.tick);
+    if is_new(e.answer) {
         rise(call, c, used, preds, end)
     } else {
         end

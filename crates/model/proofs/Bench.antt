@@ -6,7 +6,7 @@ use mathlib.Core.Path.{◌≡◌, refl}
 use mathlib.Core.List.{List, [], ◌∷◌, ◌++◌}
 use lib.Count.{count_trailing_zeros}
 use lib.ListN.{length, replicate, set}
-use Rattle.model.specs.Types.{Opening, Starting, Stepping, Looking, Inspecting, Status, Process, Kind, Put, Get, Scan, Phase, Follow}
+use Rattle.model.specs.Types.{Opening, Starting, Stepping, Looking, Inspecting, Status, Process, Kind, Put, Get, Scan, Phase, Follow, Ok, Err, Progress, fault_at, running_status}
 use Rattle.model.specs.Types.{Answer, Added, New, Found, Swept, Refusal}
 use Rattle.model.specs.Layout as Layout
 use Rattle.model.specs.Layout.{node_words, version_words, limits, capacity, word}
@@ -197,7 +197,7 @@ side_by_side k₀ v₀ t₀ k₁ v₁ t₁ = start_put 0 k₀ v₀ t₀ 1 ∷ st
 
 -- the sheet's lines: `done` without its station; `step .. on` and `step .. wait`; `look`; `refused`
 abbrev pub done : Kind → Answer → (value timestamp start effect finish : ℕ) → Said
-done kind a v t start effect finish = stepped (Stepping.Finished (record {
+done kind a v t start effect finish = stepped (Ok (Progress.Finished (record {
   kind = kind;
   answer = a;
   value = v;
@@ -205,29 +205,29 @@ done kind a v t start effect finish = stepped (Stepping.Finished (record {
   start = start;
   effect = effect;
   finish = finish;
-}))
+})))
 
 abbrev pub on : (tick : ℕ) → Said
-on t = stepped (Stepping.Moved t)
+on t = stepped (Ok (Progress.Moved t))
 
 abbrev pub wait : (tick : ℕ) → Said
-wait t = stepped (Stepping.Waited t)
+wait t = stepped (Ok (Progress.Waited t))
 
 -- a step that shows
 abbrev pub shown : (tick key value timestamp : ℕ) → Said
-shown t k v s = stepped (Stepping.Shown t (record { key = k; version = record { value = v; timestamp = s } }))
+shown t k v s = stepped (Ok (Progress.Shown t (record { key = k; version = record { value = v; timestamp = s } })))
 
 abbrev pub shows : (value timestamp : ℕ) → Said
-shows v t = looked (Looking.Shown (record { value = v; timestamp = t }))
+shows v t = looked (Ok (record { value = v; timestamp = t }))
 
 abbrev pub no_start : Refusal → Said
-no_start r = started (Starting.Refused r)
+no_start r = started (Err r)
 
 abbrev pub no_step : Refusal → Said
-no_step r = stepped (Stepping.Refused r)
+no_step r = stepped (Err r)
 
 abbrev pub no_look : Refusal → Said
-no_look r = looked (Looking.Refused r)
+no_look r = looked (Err r)
 
 -- K 2, V 3 with one process, and with two; K 3, V 5
 abbrev pub one : Bench
@@ -329,7 +329,7 @@ unfolding asked
 equal_timestamp_added = refl
 
 -- "linking the top level first": the key is found as soon as its put has taken effect
-bottom_first : asked two (start_put 0 7 5 100 2 ∷ steps 10 0) (status 0) ≡ stands (Status.Running Put 1 11)
+bottom_first : asked two (start_put 0 7 5 100 2 ∷ steps 10 0) (status 0) ≡ stands (running_status Put 1 11)
 unfolding asked
 bottom_first = refl
 
@@ -353,7 +353,7 @@ tick_counted : asked one (get 1 7) (call (step 0)) ≡ on 3
 unfolding asked
 tick_counted = refl
 
-effect_ticked : asked one (put 10 7 5 100) (status 0) ≡ stands (Status.Running Put 1 11)
+effect_ticked : asked one (put 10 7 5 100) (status 0) ≡ stands (running_status Put 1 11)
 unfolding asked
 effect_ticked = refl
 
@@ -363,7 +363,7 @@ unfolding asked
 tally_at_end = refl
 
 -- "A start that always refuses"
-start_accepted : asked one [] (call (start_get 0 7)) ≡ started (Starting.Started 1)
+start_accepted : asked one [] (call (start_get 0 7)) ≡ started (Ok 1)
 unfolding asked
 start_accepted = refl
 
@@ -452,7 +452,7 @@ altered link versions = inspect_of
     (0 ∷ 0 ∷ 5 ∷ 0 ∷ link ∷ replicate 11 0 ++ (7 ∷ versions ∷ replicate 14 0)) (replicate 6 0)
 
 -- "fewer nodes seen than those whose top reaches it"
-unlinked_node : altered 0 1 ≡ Inspecting.Fault 0 0
+unlinked_node : altered 0 1 ≡ fault_at 0 0
 unfolding altered Layout.joined Layout.word Layout.field Layout.capacity State.lawful_length State.lawful_state State.lawful_store
     Inspection.chain_falls Inspection.chain_ages Inspection.chain_sound Inspection.versions_sound Inspection.reaching
     Inspection.level_from Inspection.levels_from Inspection.inspection Inspection.idle_below Inspection.inspect_permit
@@ -460,7 +460,7 @@ unfolding altered Layout.joined Layout.word Layout.field Layout.capacity State.l
 unlinked_node = refl
 
 -- "a reading place that is 0 or not in use", also where no version is
-no_version_lem : altered 1 0 ≡ Inspecting.Fault 0 1
+no_version_lem : altered 1 0 ≡ fault_at 0 1
 unfolding altered Layout.joined Layout.word Layout.field Layout.capacity State.lawful_length State.lawful_state State.lawful_store
     Inspection.chain_falls Inspection.chain_ages Inspection.chain_sound Inspection.versions_sound Inspection.reaching
     Inspection.level_from Inspection.levels_from Inspection.inspection Inspection.idle_below Inspection.inspect_permit

@@ -6,17 +6,18 @@ use mathlib.Core.List.{List, [], ◌∷◌, map}
 use mathlib.Core.Logic.{◌≢◌, ◌↔◌}
 use mathlib.Core.Path.{◌≡◌, refl, sym, ap, ◌∙◌}
 use native.Mathlib.Omega.{arith}
+use borrow.Author.Rules.{rules}
 use borrow.Author.Tests.{leb-true, leb-false, ltb-true, eqb-false, not-false}
 use lib.Count.{count_trailing_zeros}
 use lib.Dec.{leb, ltb, eqb}
 use lib.ListN.{length, get_or, length-set}
 use lib.Seq.{set-get_or}
-use Rattle.model.specs.Types.{Answer, TooOld, VersionsFull, Added, KeysFull, New, Found, None, Swept}
+use Rattle.model.specs.Types.{Answer, TooOld, VersionsFull, Added, KeysFull, New, Found, None, Swept, Progress}
 use Rattle.model.specs.Types.{Refusal, NodeLength, VersionLength, ProcessCount, EventLimit, NoProcess, BadKey}
 use Rattle.model.specs.Types.{Busy, NoCall, Spent, Corrupt, Damaged, NoKey, NoVersion, NotOpen, UnknownCommand, CutShort, BadRange}
 use Rattle.model.specs.Types.{Phase, Walk, Read, Seek, Lock, Check, Update, Make, Link, Release, Follow}
 use Rattle.model.specs.Types.{Ahead, Unused, Less, Equal, Past, Move, Refuse, Wait, Go, Note, Commit, Show, End}
-use Rattle.model.specs.Types.{Permit, Granted, Denied, Call, Cursor, Effect, Process, State, Version, Opening, Starting, Stepping, Looking}
+use Rattle.model.specs.Types.{Permit, Ok, Err, Call, Cursor, Effect, Process, State, Version, Starting, Stepping, Looking}
 use Rattle.std.specs.Prelude.{if◌then◌else◌}
 use Rattle.model.specs.Layout.{limits, top_level, levels, Memory, newest, prev}
 use Rattle.model.specs.Numbers.{number_of, answer_number, is_counted, refusals, refusal_of, answers, answer_of}
@@ -89,6 +90,10 @@ answer_at Found = refl
 answer_at None = refl
 answer_at Swept = refl
 
+pub answer_below : (a : Answer) → answer_number a < length answers
+unfolding answer_number
+answer_below = search rules
+
 -- a number tells its refusal, and its answer
 pub number_injective : (r d : Refusal) → number_of r ≡ number_of d → r ≡ d
 number_injective r d e = sym (refusal_at r) ∙ ap refusal_of e ∙ refusal_at d
@@ -129,7 +134,7 @@ top_at_most draw =
 
 -- what is granted has met no refusal
 pub granted_iff : (b : Bool) (r : Refusal) (rest : Permit)
-    → (deny_if b r rest ≡ Granted) ↔ ((b ≡ false) × (rest ≡ Granted))
+    → (deny_if b r rest ≡ (Ok tt)) ↔ ((b ≡ false) × (rest ≡ (Ok tt)))
 granted_iff false r rest = (λ e. (refl, e), λ f. f.1)
 granted_iff true r rest = (λ e. (cc, cc), λ f. cc f.0)
 
@@ -142,7 +147,7 @@ pub record Fits (f : Fitting) : Type 0 where
   pub limit : (1 ≤ f.limit) × (f.limit ≤ 1_000_000_000)
 
 -- just such an opening is not refused
-pub granted_fits : (f : Fitting) → open_due f ≡ Granted → Fits f
+pub granted_fits : (f : Fitting) → open_due f ≡ (Ok tt) → Fits f
 unfolding open_due lawful_length
 granted_fits f e =
     let g = simp granted_iff at e in
@@ -157,7 +162,7 @@ granted_fits f e =
       limit = l;
     }
 
-pub fits_granted : (f : Fitting) → Fits f → open_due f ≡ Granted
+pub fits_granted : (f : Fitting) → Fits f → open_due f ≡ (Ok tt)
 unfolding open_due lawful_length
 fits_granted f h =
     let K = h.nodes in
@@ -182,16 +187,16 @@ pub record Untouched (nodes versions : List ℕ) (o : Opened) : Type 0 where
   pub closed : o.result.state ≡ closed_state
 
 open_refused_by : (p : Permit) (nodes versions : List ℕ) (processes limit : ℕ) (r : Refusal)
-    → (open_by p nodes versions processes limit).result.outcome ≡ Opening.Refused r
+    → (open_by p nodes versions processes limit).result.outcome ≡ Err r
     → Untouched nodes versions (open_by p nodes versions processes limit)
 unfolding open_by
-open_refused_by (Denied d) nodes versions processes limit r e =
+open_refused_by (Err d) nodes versions processes limit r e =
     record { same_nodes = refl; same_versions = refl; closed = refl }
-open_refused_by Granted nodes versions processes limit r e = record { same_nodes = cc; same_versions = cc; closed = cc }
+open_refused_by (Ok _) nodes versions processes limit r e = record { same_nodes = cc; same_versions = cc; closed = cc }
 
 -- a refused opening changes no lent word and gives a closed state
 pub open_refused : (nodes versions : List ℕ) (processes limit : ℕ) (r : Refusal)
-    → (open_of nodes versions processes limit).result.outcome ≡ Opening.Refused r
+    → (open_of nodes versions processes limit).result.outcome ≡ Err r
     → Untouched nodes versions (open_of nodes versions processes limit)
 unfolding open_of
 open_refused nodes versions processes limit =
@@ -200,7 +205,7 @@ open_refused nodes versions processes limit =
 -- an opening within the limits is accepted, whatever the tables hold
 pub open_accepted : (nodes versions : List ℕ) (processes limit : ℕ) → lawful_nodes (length nodes) ≡ true
     → lawful_versions (length versions) ≡ true → within 1 limits.processes processes ≡ true
-    → within 1 limits.events limit ≡ true → (open_of nodes versions processes limit).result.outcome ≡ Opening.Opened
+    → within 1 limits.events limit ≡ true → (open_of nodes versions processes limit).result.outcome ≡ (Ok tt)
 unfolding open_of open_due open_by
 open_accepted nodes versions processes limit a b c d = rw (a, b, c, d)
 
@@ -216,19 +221,19 @@ pub record Event (before after : State) (tick : ℕ) : Type 0 where
 
 -- a start is refused and returns the state that it was given, or it is an event
 abbrev pub Starts : (before after : State) → Starting → Type 0
-Starts before after (Starting.Refused r) = after ≡ before
-Starts before after (Starting.Started t) = Event before after t
+Starts before after (Err r) = after ≡ before
+Starts before after (Ok t) = Event before after t
 
 module _ (s : State) (nodes versions : List ℕ) (i : ℕ) where
-  may_start : (first last : ℕ) → start_permit s nodes versions i first last ≡ Granted → s.events < s.limit
+  may_start : (first last : ℕ) → start_permit s nodes versions i first last ≡ (Ok tt) → s.events < s.limit
   unfolding start_permit
   may_start first last e = let f = simp granted_iff at e in leb-false _ _ f.1.1.1.1.1.0
 
-  starts_by : (p : Permit) → (p ≡ Granted → s.events < s.limit) → (call : Call)
+  starts_by : (p : Permit) → (p ≡ (Ok tt) → s.events < s.limit) → (call : Call)
       → let o = start_by p s i call in Starts s o.state o.outcome
   unfolding start_by
-  starts_by (Denied r) h call = refl
-  starts_by Granted h call = omega (arith, h refl)
+  starts_by (Err r) h call = refl
+  starts_by (Ok _) h call = omega (arith, h refl)
 
   pub starts : (op : Operation) → let o = start_of s nodes versions i op in Starts s o.state o.outcome
   unfolding start_of
@@ -236,7 +241,7 @@ module _ (s : State) (nodes versions : List ℕ) (i : ℕ) where
 
   -- whenever a start is refused, its state is the one given
   pub start_refused : (op : Operation) (r : Refusal)
-      → (start_of s nodes versions i op).outcome ≡ Starting.Refused r → (start_of s nodes versions i op).state ≡ s
+      → (start_of s nodes versions i op).outcome ≡ Err r → (start_of s nodes versions i op).state ≡ s
   start_refused op r e = rw e at (starts op)
 
 -- ---- moves
@@ -341,11 +346,11 @@ transition_keeps holder tick p m = search (keeping, keeps_phase)
 
 -- a step is refused and returns the state and all that was lent, or it is an event
 abbrev pub Steps : (before after : Store) → Stepping → Type 0
-Steps before after (Stepping.Refused r) = after ≡ before
-Steps before after (Stepping.Moved t) = Event before.state after.state t
-Steps before after (Stepping.Waited t) = Event before.state after.state t
-Steps before after (Stepping.Shown t x) = Event before.state after.state t
-Steps before after (Stepping.Finished f) = Event before.state after.state f.finish
+Steps before after (Err r) = after ≡ before
+Steps before after (Ok (Progress.Moved t)) = Event before.state after.state t
+Steps before after (Ok (Progress.Waited t)) = Event before.state after.state t
+Steps before after (Ok (Progress.Shown t x)) = Event before.state after.state t
+Steps before after (Ok (Progress.Finished f)) = Event before.state after.state f.finish
 
 -- one event more, and all else as it was
 abbrev pub waited : Store → Store
@@ -365,21 +370,21 @@ waited w = let s = w.state in record {
 }
 
 module _ (w : Store) (i : ℕ) where
-  may_step : step_permit w i ≡ Granted → w.state.events < w.state.limit
+  may_step : step_permit w i ≡ (Ok tt) → w.state.events < w.state.limit
   unfolding step_permit
   may_step e = let f = simp granted_iff at e in leb-false _ _ f.1.1.1.0
 
-  steps_by : (p : Permit) → (p ≡ Granted → w.state.events < w.state.limit) → (v : Move) (m : Memory)
+  steps_by : (p : Permit) → (p ≡ (Ok tt) → w.state.events < w.state.limit) → (v : Move) (m : Memory)
       → let o = step_by p w i (moved m v) in Steps w o.store o.outcome
   unfolding step_by outcome_of
-  steps_by (Denied r) h v m = refl
-  steps_by Granted h Refuse m = refl
-  steps_by Granted h Wait m = omega (arith, h refl)
-  steps_by Granted h (Go c) m = omega (arith, h refl)
-  steps_by Granted h (Note c) m = omega (arith, h refl)
-  steps_by Granted h (Commit c a) m = omega (arith, h refl)
-  steps_by Granted h (Show c x) m = omega (arith, h refl)
-  steps_by Granted h (End a v e) m = omega (arith, h refl)
+  steps_by (Err r) h v m = refl
+  steps_by (Ok _) h Refuse m = refl
+  steps_by (Ok _) h Wait m = omega (arith, h refl)
+  steps_by (Ok _) h (Go c) m = omega (arith, h refl)
+  steps_by (Ok _) h (Note c) m = omega (arith, h refl)
+  steps_by (Ok _) h (Commit c a) m = omega (arith, h refl)
+  steps_by (Ok _) h (Show c x) m = omega (arith, h refl)
+  steps_by (Ok _) h (End a v e) m = omega (arith, h refl)
 
   -- so for every step
   pub steps : let o = step_of w i in Steps w o.store o.outcome
@@ -387,25 +392,25 @@ module _ (w : Store) (i : ℕ) where
   steps = steps_by (step_permit w i) may_step _ _
 
   -- whenever a step is refused, its store is the one given
-  pub step_refused : (r : Refusal) → (step_of w i).outcome ≡ Stepping.Refused r → (step_of w i).store ≡ w
+  pub step_refused : (r : Refusal) → (step_of w i).outcome ≡ Err r → (step_of w i).store ≡ w
   step_refused r e = rw e at steps
 
   waits_by : (p : Permit) (v : Move) (m : Memory) (t : ℕ)
       → (v ≡ Wait → m ≡ memory_of w.state w.nodes w.versions)
-      → (step_by p w i (moved m v)).outcome ≡ Stepping.Waited t
+      → (step_by p w i (moved m v)).outcome ≡ Ok (Progress.Waited t)
       → (step_by p w i (moved m v)).store ≡ waited w
   unfolding step_by outcome_of process_after tally_after
-  waits_by (Denied r) v m t h e = cc
-  waits_by Granted Refuse m t h e = cc
-  waits_by Granted Wait m t h e = rw (h refl) (simp set-get_or)
-  waits_by Granted (Go c) m t h e = cc
-  waits_by Granted (Note c) m t h e = cc
-  waits_by Granted (Commit c a) m t h e = cc
-  waits_by Granted (Show c x) m t h e = cc
-  waits_by Granted (End a v x) m t h e = cc
+  waits_by (Err r) v m t h e = cc
+  waits_by (Ok _) Refuse m t h e = cc
+  waits_by (Ok _) Wait m t h e = rw (h refl) (simp set-get_or)
+  waits_by (Ok _) (Go c) m t h e = cc
+  waits_by (Ok _) (Note c) m t h e = cc
+  waits_by (Ok _) (Commit c a) m t h e = cc
+  waits_by (Ok _) (Show c x) m t h e = cc
+  waits_by (Ok _) (End a v x) m t h e = cc
 
   -- "the step answers 'wait' and changes only the event count"
-  pub step_waits : (t : ℕ) → (step_of w i).outcome ≡ Stepping.Waited t → (step_of w i).store ≡ waited w
+  pub step_waits : (t : ℕ) → (step_of w i).outcome ≡ Ok (Progress.Waited t) → (step_of w i).store ≡ waited w
   unfolding step_of
   step_waits t = waits_by (step_permit w i) _ _ t (transition_keeps _ _ _ _).waits
 
@@ -413,9 +418,9 @@ module _ (w : Store) (i : ℕ) where
 
 -- an outcome that is shown only where fewer than n versions back were asked
 abbrev ShownBelow : (n back : ℕ) → Looking → Type 0
-ShownBelow n back o = (v : Version) → o ≡ Looking.Shown v → back < n
+ShownBelow n back o = (v : Version) → o ≡ Ok v → back < n
 
-not_shown : (n back : ℕ) (r : Refusal) → ShownBelow n back (Looking.Refused r)
+not_shown : (n back : ℕ) (r : Refusal) → ShownBelow n back (Err r)
 not_shown n back r v e = let z : ◌≡◌ {A = ℕ} 0 1 = cc in omega arith
 
 -- each hop back goes to a smaller place
@@ -443,11 +448,11 @@ node_falls m back x =
 
 look_falls : (p : Permit) (m : Memory) (k back : ℕ) → ShownBelow m.counts.versions back (look_by p m k back)
 unfolding look_by
-look_falls (Denied r) m k back = not_shown _ _ _
-look_falls Granted m k back = node_falls m back _
+look_falls (Err r) m k back = not_shown _ _ _
+look_falls (Ok _) m k back = node_falls m back _
 
 -- a look shows no version further back than there are versions in use
 pub look_shows : (s : State) (nodes versions : List ℕ) (k back : ℕ) (v : Version)
-    → look_of s nodes versions k back ≡ Looking.Shown v → back < s.counts.versions
+    → look_of s nodes versions k back ≡ Ok v → back < s.counts.versions
 unfolding look_of
 look_shows s nodes versions k back = look_falls (look_permit s nodes versions k) _ k back

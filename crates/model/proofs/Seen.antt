@@ -5,7 +5,7 @@ use mathlib.Core.List.{List, [], ◌∷◌, ◌++◌}
 use mathlib.Core.Path.{◌≡◌, refl}
 use lib.Dec.{eqb}
 use lib.ListN.{length}
-use Rattle.model.specs.Types.{Refusal, Permit, Granted, Denied, Starting, Stepping, Looking, Status}
+use Rattle.model.specs.Types.{Refusal, Permit, Ok, Err, Starting, Stepping, Looking, Status, Progress}
 use Rattle.std.specs.Prelude.{if◌then◌else◌}
 use Rattle.model.specs.Numbers.{number_of}
 use Rattle.model.specs.Requests.{Operation}
@@ -50,12 +50,12 @@ abbrev pub seen_due : Seen → Action → Permit
 seen_due h a = due h.processes h.limit (length h.log) h.pending a
 
 abbrev pub is_granted : Permit → Bool
-is_granted Granted = true
-is_granted (Denied r) = false
+is_granted (Ok _) = true
+is_granted (Err r) = false
 
 abbrev pub is_denied : Permit → Refusal → Bool
-is_denied Granted r = false
-is_denied (Denied d) r = eqb (number_of d) (number_of r)
+is_denied (Ok _) r = false
+is_denied (Err d) r = eqb (number_of d) (number_of r)
 
 -- 1 where what was seen is wrong
 abbrev pub unless : Bool → ℕ
@@ -75,19 +75,19 @@ saw_event h a pending sights starts completed due tick =
     (h.faults + unless (is_granted due && eqb tick (tick_of h)))
 
 unfoldable pub saw_start : Seen → (process : ℕ) → Operation → Starting → Seen
-saw_start h i op (Starting.Refused r) = saw_refusal h (is_denied (seen_due h (start i op)) r)
-saw_start h i op (Starting.Started t) =
+saw_start h i op (Err r) = saw_refusal h (is_denied (seen_due h (start i op)) r)
+saw_start h i op (Ok t) =
     saw_event h (start i op) (updated h.pending i (has_call (record { operation = op; start = tick_of h }))) (updated h.sights i [])
     (suc h.starts) h.completed (seen_due h (start i op)) t
 
 unfoldable pub saw_step : Seen → (process : ℕ) → Stepping → Seen
-saw_step h i (Stepping.Refused r) = saw_refusal h (is_denied (seen_due h (step i)) r)
-saw_step h i (Stepping.Moved t) = saw_event h (step i) h.pending h.sights h.starts h.completed (seen_due h (step i)) t
-saw_step h i (Stepping.Waited t) = saw_event h (step i) h.pending h.sights h.starts h.completed (seen_due h (step i)) t
-saw_step h i (Stepping.Shown t x) =
+saw_step h i (Err r) = saw_refusal h (is_denied (seen_due h (step i)) r)
+saw_step h i (Ok (Progress.Moved t)) = saw_event h (step i) h.pending h.sights h.starts h.completed (seen_due h (step i)) t
+saw_step h i (Ok (Progress.Waited t)) = saw_event h (step i) h.pending h.sights h.starts h.completed (seen_due h (step i)) t
+saw_step h i (Ok (Progress.Shown t x)) =
     saw_event h (step i) h.pending (updated h.sights i (record { item = x; tick = tick_of h } ∷ h.sights i)) h.starts h.completed
     (seen_due h (step i)) t
-saw_step h i (Stepping.Finished f) =
+saw_step h i (Ok (Progress.Finished f)) =
     saw_event h (step i) (updated h.pending i no_call) h.sights h.starts
     (finished (h.pending i) i (h.sights i) f (tick_of h) h.completed) (seen_due h (step i)) f.finish
 
@@ -114,13 +114,13 @@ seen h = seen_of h.processes h.limit (log_of h.entries) (pending_in h.entries) (
 
 pub seen_more : (h : History) (e : Observation) → seen (noted h e) ≡ saw (seen h) e
 unfolding saw saw_start saw_step saw_look faults_of log_of pending_in sights_in starts_in completed_in queries_in
-seen_more h (started i op (Starting.Refused r)) = refl
-seen_more h (started i op (Starting.Started t)) = refl
-seen_more h (stepped i (Stepping.Refused r)) = refl
-seen_more h (stepped i (Stepping.Moved t)) = refl
-seen_more h (stepped i (Stepping.Waited t)) = refl
-seen_more h (stepped i (Stepping.Shown t x)) = refl
-seen_more h (stepped i (Stepping.Finished f)) = refl
+seen_more h (started i op (Err r)) = refl
+seen_more h (started i op (Ok t)) = refl
+seen_more h (stepped i (Err r)) = refl
+seen_more h (stepped i (Ok (Progress.Moved t))) = refl
+seen_more h (stepped i (Ok (Progress.Waited t))) = refl
+seen_more h (stepped i (Ok (Progress.Shown t x))) = refl
+seen_more h (stepped i (Ok (Progress.Finished f))) = refl
 seen_more h (looked k back o) = refl
 
 -- ---- the effects

@@ -1,6 +1,6 @@
 -- The store by value as a system: its state, and the words lent with it.
 use Rattle.std.specs.Prelude.{ℕ, List, length, replicate}
-use Rattle.model.specs.Types.{State, Opening}
+use Rattle.model.specs.Types.{State, Opening, Ok, Err}
 use Rattle.model.specs.Layout.{limits}
 use Rattle.model.specs.Calls.{Opened, open_of, start_of, Store, step_of, look_of, status_of}
 use Rattle.model.specs.Inspection.{inspect_of}
@@ -28,8 +28,8 @@ fitting_of g = record { nodes = length g.nodes; versions = length g.versions; pr
 
 -- what an opening gives, whatever holds the store
 abbrev pub opens_by : {C : Type 0} → Opening → C → Opens C
-opens_by (Opening.Refused r) w = refused r
-opens_by Opening.Opened w = opened w
+opens_by (Err r) w = refused r
+opens_by (Ok _) w = opened w
 
 abbrev pub by_value : System
 by_value = record {

@@ -2,7 +2,7 @@
 -- (`status_of`) and the tally. Inspection has a file of its own.
 use Rattle.std.specs.Prelude.{ℕ, zero, suc, ◌+◌, Bool, not, ◌&&◌, List, eqb, ltb, leb, length, get_or, set, replicate}
 use Rattle.std.specs.Int.Count.{count_trailing_zeros}
-use Rattle.model.specs.Types.{Kind, Put, Get, Scan, Walk, Answer, None, Refusal, NodeLength, VersionLength, ProcessCount, EventLimit, NoProcess, BadKey, BadRange, Busy, NoCall, Spent, Corrupt, Damaged, NoKey, NoVersion, Call, Process, State, Permit, Granted, Denied, Move, Refuse, Wait, Go, Note, Commit, Show, End, Opening, OpenResult, Starting, StartResult, Stepping, Looking, Status}
+use Rattle.model.specs.Types.{Kind, Put, Get, Scan, Walk, Answer, None, Refusal, NodeLength, VersionLength, ProcessCount, EventLimit, NoProcess, BadKey, BadRange, Busy, NoCall, Spent, Corrupt, Damaged, NoKey, NoVersion, Call, Process, State, Permit, Ok, Err, Move, Refuse, Wait, Go, Note, Commit, Show, End, OpenResult, StartResult, Stepping, Looking, Status, Progress, idle_status, running_status}
 use Rattle.std.specs.Prelude.{if◌then◌else◌}
 use Rattle.model.specs.Layout.{Memory, top_level, levels, limits, key, newest, prev, version_at, fresh_nodes}
 use Rattle.model.specs.Numbers.{answer_number, is_counted}
@@ -13,7 +13,7 @@ use Rattle.model.specs.Phases.{Moved, refuses, used_version, transition_of}
 
 -- "Each is given if its condition is the first met in the order below, and never otherwise."
 abbrev pub deny_if : Bool → Refusal → Permit → Permit
-deny_if b r rest = if b then Denied r else rest
+deny_if b r rest = if b then Err r else rest
 
 -- ---- open
 
@@ -24,7 +24,7 @@ open_due f =
     (deny_if (not (lawful_versions f.versions)) VersionLength
     (deny_if (not (within 1 limits.processes f.processes)) ProcessCount
     (deny_if (not (within 1 limits.events f.limit)) EventLimit
-    Granted)))
+    (Ok tt))))
 
 abbrev pub open_permit : (nodes versions : List ℕ) (processes limit : ℕ) → Permit
 open_permit nodes versions processes limit =
@@ -38,14 +38,14 @@ pub record Opened : Type 0 where
 
 -- "Opening zeroes both tables and sets word 2 of node 0 to 5." A refusal "changes no lent word"; "He gets a closed state."
 unfoldable pub open_by : Permit → (nodes versions : List ℕ) (processes limit : ℕ) → Opened
-open_by (Denied r) nodes versions processes limit = record {
-  result = record { outcome = Opening.Refused r; state = closed_state };
+open_by (Err r) nodes versions processes limit = record {
+  result = record { outcome = Err r; state = closed_state };
   nodes = nodes;
   versions = versions;
 }
-open_by Granted nodes versions processes limit = record {
+open_by (Ok _) nodes versions processes limit = record {
   result = record {
-    outcome = Opening.Opened;
+    outcome = (Ok tt);
     state = fresh_state processes limit (record { nodes = length nodes; versions = length versions });
   };
   nodes = fresh_nodes (length nodes);
@@ -78,7 +78,7 @@ start_permit s nodes versions i first last =
     (deny_if (ltb last first) BadRange
     (deny_if (not (is_idle (process_at s i).call.kind)) Busy
     (deny_if (spent s) Spent
-    Granted)))))
+    (Ok tt))))))
 
 -- "Walk (start: L 5, p 0)"; nothing remembered, nothing made, "(before it, none and 0)"
 abbrev pub begun : Call → Process
@@ -91,8 +91,8 @@ begun call = record {
 
 -- A refusal "changes no lent word and returns the state it was given."
 unfoldable pub start_by : Permit → State → ℕ → Call → StartResult
-start_by (Denied r) s i call = record { outcome = Starting.Refused r; state = s }
-start_by Granted s i call = record { outcome = Starting.Started (s.events + 1); state = with_event s i s.counts (begun call) }
+start_by (Err r) s i call = record { outcome = Err r; state = s }
+start_by (Ok _) s i call = record { outcome = Ok (s.events + 1); state = with_event s i s.counts (begun call) }
 
 -- the call that a process keeps: of a draw the top level that it gives
 unfoldable pub call_for : Operation → (start : ℕ) → Call
@@ -127,7 +127,7 @@ step_permit w i =
     (deny_if (no_such w.state i) NoProcess
     (deny_if (is_idle (process_at w.state i).call.kind) NoCall
     (deny_if (spent w.state) Spent
-    Granted)))
+    (Ok tt))))
 
 -- the process after a move at this tick
 unfoldable pub process_after : (tick : ℕ) → Process → Move → Process
@@ -146,14 +146,14 @@ process_after tick p (End a v e) = idle_process
 
 -- "A finishing step answers kind, answer, value, stamp [..] and the ticks of start, effect and finish."
 unfoldable pub outcome_of : (tick : ℕ) → Call → Move → Stepping
-outcome_of tick call Refuse = Stepping.Refused Damaged
-outcome_of tick call Wait = Stepping.Waited tick
-outcome_of tick call (Go c) = Stepping.Moved tick
-outcome_of tick call (Note c) = Stepping.Moved tick
-outcome_of tick call (Commit c a) = Stepping.Moved tick
+outcome_of tick call Refuse = Err Damaged
+outcome_of tick call Wait = Ok (Progress.Waited tick)
+outcome_of tick call (Go c) = Ok (Progress.Moved tick)
+outcome_of tick call (Note c) = Ok (Progress.Moved tick)
+outcome_of tick call (Commit c a) = Ok (Progress.Moved tick)
 -- P1: "shows its number and newest reading"
-outcome_of tick call (Show c x) = Stepping.Shown tick x
-outcome_of tick call (End a v e) = Stepping.Finished (record {
+outcome_of tick call (Show c x) = Ok (Progress.Shown tick x)
+outcome_of tick call (End a v e) = Ok (Progress.Finished (record {
   kind = call.kind;
   answer = a;
   value = v.value;
@@ -161,7 +161,7 @@ outcome_of tick call (End a v e) = Stepping.Finished (record {
   start = call.start;
   effect = e;
   finish = tick;
-})
+}))
 
 -- "the one count of that answer grows by one in place, and a count at 4,294,967,295 stays"; of a sweep P1 says: "no tally counts it"
 unfoldable pub counted : List ℕ → Answer → List ℕ
@@ -192,8 +192,8 @@ abbrev pub store_after : Store → ℕ → Move → Memory → Store
 store_after w i v m = if refuses v then w else evented w i v m
 
 unfoldable pub step_by : Permit → Store → ℕ → Moved → Stepped
-step_by (Denied r) w i v = record { outcome = Stepping.Refused r; store = w }
-step_by Granted w i v = record {
+step_by (Err r) w i v = record { outcome = Err r; store = w }
+step_by (Ok _) w i v = record {
   outcome = outcome_of (w.state.events + 1) (process_at w.state i).call v.move;
   store = store_after w i v.move v.memory;
 }
@@ -212,17 +212,17 @@ find_from t k (suc left) x = if eqb (key t x) k then x else find_from t k left (
 
 -- "and follows previous places"; 13 "fewer readings than asked", 11 "a previous place not smaller"
 unfoldable pub back_from : (versions : List ℕ) → (back i : ℕ) → Looking
-back_from t zero i = Looking.Shown (version_at t i)
+back_from t zero i = Ok (version_at t i)
 back_from t (suc back) i =
-    if leb i (prev t i) then Looking.Refused Damaged
-    else if eqb (prev t i) 0 then Looking.Refused NoVersion
+    if leb i (prev t i) then Err Damaged
+    else if eqb (prev t i) 0 then Err NoVersion
     else back_from t back (prev t i)
 
 -- "Whoever looks: 12 no such tray; 13 fewer readings than asked."
 unfoldable pub look_node : Memory → (back x : ℕ) → Looking
 look_node m back x =
-    if eqb x 0 then Looking.Refused NoKey
-    else if not (used_version m (newest m.nodes x)) then Looking.Refused Damaged
+    if eqb x 0 then Err NoKey
+    else if not (used_version m (newest m.nodes x)) then Err Damaged
     else back_from m.versions back (newest m.nodes x)
 
 -- "Look: 10, 6, 12, 11, 13 (11 before 13 along the chain)."
@@ -230,11 +230,11 @@ unfoldable pub look_permit : State → (nodes versions : List ℕ) → (key : �
 look_permit s nodes versions k =
     deny_if (not (lawful_store s nodes versions)) Corrupt
     (deny_if (not (lawful_key k)) BadKey
-    Granted)
+    (Ok tt))
 
 unfoldable pub look_by : Permit → Memory → (key back : ℕ) → Looking
-look_by (Denied r) m k back = Looking.Refused r
-look_by Granted m k back = look_node m back (find_from m.nodes k m.counts.nodes 1)
+look_by (Err r) m k back = Err r
+look_by (Ok _) m k back = look_node m back (find_from m.nodes k m.counts.nodes 1)
 
 unfoldable pub look_of : State → (nodes versions : List ℕ) → (key back : ℕ) → Looking
 look_of s nodes versions k back = look_by (look_permit s nodes versions k) (memory_of s nodes versions) k back
@@ -243,18 +243,18 @@ look_of s nodes versions k back = look_by (look_permit s nodes versions k) (memo
 
 -- "A station's standing is idle, or kind, start tick and effect tick (0 before effect)."
 unfoldable pub standing : Kind → Process → Status
-standing k p = if is_idle k then Status.Idle else Status.Running k p.call.start p.effect.tick
+standing k p = if is_idle k then idle_status else running_status k p.call.start p.effect.tick
 
 -- "Standing: 10, 5; it is lent no tables, so 10 there reads the state alone."
 unfoldable pub status_permit : State → (process : ℕ) → Permit
 status_permit s i =
     deny_if (not (lawful_state s)) Corrupt
     (deny_if (no_such s i) NoProcess
-    Granted)
+    (Ok tt))
 
 unfoldable pub status_by : Permit → Process → Status
-status_by (Denied r) p = Status.Refused r
-status_by Granted p = standing p.call.kind p
+status_by (Err r) p = Err r
+status_by (Ok _) p = standing p.call.kind p
 
 unfoldable pub status_of : State → (process : ℕ) → Status
 status_of s i = status_by (status_permit s i) (process_at s i)

@@ -1,7 +1,7 @@
 -- What is seen of a list of calls: each action with its outcome, and nothing of the store inside. From these alone are read the
 -- events, the call that each process has and what it has shown, the finished calls, the looks, and which refusal was due.
 use Rattle.std.specs.Prelude.{ℕ, suc, Bool, true, false, not, ◌&&◌, List, [], ◌∷◌, ◌++◌, eqb, ltb, leb, length}
-use Rattle.model.specs.Types.{NoProcess, BadKey, BadRange, Busy, NoCall, Spent, Permit, Granted, Denied, Item, Finish, Starting, Stepping, Looking}
+use Rattle.model.specs.Types.{NoProcess, BadKey, BadRange, Busy, NoCall, Spent, Permit, Ok, Err, Item, Finish, Starting, Stepping, Looking, Progress}
 use Rattle.std.specs.Prelude.{if◌then◌else◌}
 use Rattle.model.specs.Requests.{Fitting, Operation, first_of, last_of}
 use Rattle.model.specs.State.{lawful_key}
@@ -35,19 +35,19 @@ pub record History : Type 0 where
 
 -- the refusal that an outcome tells, if any
 abbrev pub refusal_in : Observation → Permit
-refusal_in (started i op (Starting.Refused r)) = Denied r
-refusal_in (started i op (Starting.Started t)) = Granted
-refusal_in (stepped i (Stepping.Refused r)) = Denied r
-refusal_in (stepped i (Stepping.Moved t)) = Granted
-refusal_in (stepped i (Stepping.Waited t)) = Granted
-refusal_in (stepped i (Stepping.Shown t x)) = Granted
-refusal_in (stepped i (Stepping.Finished f)) = Granted
-refusal_in (looked k back (Looking.Refused r)) = Denied r
-refusal_in (looked k back (Looking.Shown v)) = Granted
+refusal_in (started i op (Err r)) = Err r
+refusal_in (started i op (Ok t)) = Ok tt
+refusal_in (stepped i (Err r)) = Err r
+refusal_in (stepped i (Ok (Progress.Moved t))) = Ok tt
+refusal_in (stepped i (Ok (Progress.Waited t))) = Ok tt
+refusal_in (stepped i (Ok (Progress.Shown t x))) = Ok tt
+refusal_in (stepped i (Ok (Progress.Finished f))) = Ok tt
+refusal_in (looked k back (Err r)) = Err r
+refusal_in (looked k back (Ok v)) = Ok tt
 
 abbrev pub accepted : Permit → Bool
-accepted Granted = true
-accepted (Denied r) = false
+accepted (Ok _) = true
+accepted (Err r) = false
 
 -- "Every accepted start and every step not refused is one event"; a look "is no event"
 abbrev pub is_event : Observation → Bool
@@ -85,13 +85,13 @@ updated f i x j = if eqb j i then x else f j
 
 -- what each process has after an entry, an event of this tick if it is one
 abbrev pub pending_after : Observation → (tick : ℕ) → (ℕ → Pending) → ℕ → Pending
-pending_after (started i op (Starting.Refused r)) tick f = f
-pending_after (started i op (Starting.Started t)) tick f = updated f i (has_call (record { operation = op; start = tick }))
-pending_after (stepped i (Stepping.Refused r)) tick f = f
-pending_after (stepped i (Stepping.Moved t)) tick f = f
-pending_after (stepped i (Stepping.Waited t)) tick f = f
-pending_after (stepped i (Stepping.Shown t x)) tick f = f
-pending_after (stepped i (Stepping.Finished d)) tick f = updated f i no_call
+pending_after (started i op (Err r)) tick f = f
+pending_after (started i op (Ok t)) tick f = updated f i (has_call (record { operation = op; start = tick }))
+pending_after (stepped i (Err r)) tick f = f
+pending_after (stepped i (Ok (Progress.Moved t))) tick f = f
+pending_after (stepped i (Ok (Progress.Waited t))) tick f = f
+pending_after (stepped i (Ok (Progress.Shown t x))) tick f = f
+pending_after (stepped i (Ok (Progress.Finished d))) tick f = updated f i no_call
 pending_after (looked k back o) tick f = f
 
 unfoldable pub pending_in : List Observation → (process : ℕ) → Pending
@@ -105,13 +105,13 @@ pub record Sight : Type 0 where
 
 -- what the last call of each process has shown after an entry, an event of this tick if it is one
 abbrev pub sights_after : Observation → (tick : ℕ) → (ℕ → List Sight) → ℕ → List Sight
-sights_after (started i op (Starting.Refused r)) tick f = f
-sights_after (started i op (Starting.Started t)) tick f = updated f i []
-sights_after (stepped i (Stepping.Refused r)) tick f = f
-sights_after (stepped i (Stepping.Moved t)) tick f = f
-sights_after (stepped i (Stepping.Waited t)) tick f = f
-sights_after (stepped i (Stepping.Shown t x)) tick f = updated f i (record { item = x; tick = tick } ∷ f i)
-sights_after (stepped i (Stepping.Finished d)) tick f = f
+sights_after (started i op (Err r)) tick f = f
+sights_after (started i op (Ok t)) tick f = updated f i []
+sights_after (stepped i (Err r)) tick f = f
+sights_after (stepped i (Ok (Progress.Moved t))) tick f = f
+sights_after (stepped i (Ok (Progress.Waited t))) tick f = f
+sights_after (stepped i (Ok (Progress.Shown t x))) tick f = updated f i (record { item = x; tick = tick } ∷ f i)
+sights_after (stepped i (Ok (Progress.Finished d))) tick f = f
 sights_after (looked k back o) tick f = f
 
 -- newest first
@@ -144,11 +144,11 @@ finished (has_call c) i ss d tick cs = record { process = i; invoked = c; shown 
 
 abbrev pub completed_after : Observation → (tick : ℕ) → (ℕ → Pending) → (ℕ → List Sight) → List Completed → List Completed
 completed_after (started i op o) tick f g cs = cs
-completed_after (stepped i (Stepping.Refused r)) tick f g cs = cs
-completed_after (stepped i (Stepping.Moved t)) tick f g cs = cs
-completed_after (stepped i (Stepping.Waited t)) tick f g cs = cs
-completed_after (stepped i (Stepping.Shown t x)) tick f g cs = cs
-completed_after (stepped i (Stepping.Finished d)) tick f g cs = finished (f i) i (g i) d tick cs
+completed_after (stepped i (Err r)) tick f g cs = cs
+completed_after (stepped i (Ok (Progress.Moved t))) tick f g cs = cs
+completed_after (stepped i (Ok (Progress.Waited t))) tick f g cs = cs
+completed_after (stepped i (Ok (Progress.Shown t x))) tick f g cs = cs
+completed_after (stepped i (Ok (Progress.Finished d))) tick f g cs = finished (f i) i (g i) d tick cs
 completed_after (looked k back o) tick f g cs = cs
 
 unfoldable pub completed_in : List Observation → List Completed
@@ -188,13 +188,13 @@ due processes limit events pending (start i op) =
     (deny_if (ltb (last_of op) (first_of op)) BadRange
     (deny_if (not (is_free (pending i))) Busy
     (deny_if (leb limit events) Spent
-    Granted))))
+    (Ok tt)))))
 due processes limit events pending (step i) =
     deny_if (leb processes i) NoProcess
     (deny_if (is_free (pending i)) NoCall
     (deny_if (leb limit events) Spent
-    Granted))
-due processes limit events pending (look k back) = deny_if (not (lawful_key k)) BadKey Granted
+    (Ok tt)))
+due processes limit events pending (look k back) = deny_if (not (lawful_key k)) BadKey (Ok tt)
 
 -- what is due of an action after these entries
 abbrev pub due_after : (processes limit : ℕ) → List Observation → Action → Permit

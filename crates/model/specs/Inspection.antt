@@ -1,6 +1,6 @@
 -- Document 01, "Inspection": the walk of every level along the links, to the first fault.
 use Rattle.std.specs.Prelude.{ℕ, zero, suc, ◌+◌, Bool, true, false, not, ◌&&◌, List, eqb, ltb, leb}
-use Rattle.model.specs.Types.{State, Corrupt, Busy, Permit, Granted, Denied, Inspecting}
+use Rattle.model.specs.Types.{State, Corrupt, Busy, Permit, Ok, Err, Inspecting, Some, Option, no_fault, fault_at}
 use Rattle.std.specs.Prelude.{if◌then◌else◌}
 use Rattle.model.specs.Layout.{Memory, levels, key, newest, top, next, lock, timestamp, prev}
 use Rattle.model.specs.State.{process_at, memory_of, lawful_store}
@@ -47,28 +47,28 @@ reaching t l (suc n) = (if leb l (top t (suc n)) then 1 else 0) + reaching t l n
 -- number not greater; the next node's top below the level; at the level's end, fewer nodes seen than those whose top
 -- reaches it (node 0 not counted)": from node x on, of at most `fuel` nodes
 unfoldable pub level_from : Memory → (level fuel seen x : ℕ) → Inspecting
-level_from m l zero seen x = Inspecting.Sound
+level_from m l zero seen x = no_fault
 level_from m l (suc fuel) seen x =
     let y = next m.nodes l x in
-    if not (eqb (lock m.nodes l x) 0) then Inspecting.Fault l x
-    else if not (versions_sound m l x) then Inspecting.Fault l x
+    if not (eqb (lock m.nodes l x) 0) then fault_at l x
+    else if not (versions_sound m l x) then fault_at l x
     else if eqb y 0 then
-    (if ltb seen (reaching m.nodes l m.counts.nodes) then Inspecting.Fault l x else Inspecting.Sound)
-    else if ltb m.counts.nodes y then Inspecting.Fault l x
-    else if leb (key m.nodes y) (key m.nodes x) then Inspecting.Fault l x
-    else if ltb (top m.nodes y) l then Inspecting.Fault l x
+    (if ltb seen (reaching m.nodes l m.counts.nodes) then fault_at l x else no_fault)
+    else if ltb m.counts.nodes y then fault_at l x
+    else if leb (key m.nodes y) (key m.nodes x) then fault_at l x
+    else if ltb (top m.nodes y) l then fault_at l x
     else level_from m l fuel (seen + 1) y
 
 abbrev pub then_inspect : Inspecting → Inspecting → Inspecting
-then_inspect (Inspecting.Refused r) rest = Inspecting.Refused r
-then_inspect (Inspecting.Fault l x) rest = Inspecting.Fault l x
-then_inspect Inspecting.Sound rest = rest
+then_inspect (Err r) rest = Err r
+then_inspect (Ok (Some f)) rest = Ok (Some f)
+then_inspect (Ok Option.None) rest = rest
 
 -- "For levels 0 to 5, along the links from node 0, the inspection stops at the first fault"; "The answer is sound, or level
 -- and node reached.": `left` levels from l on.
 -- Keys rise along the links, so no level has more nodes than are in use.
 unfoldable pub levels_from : Memory → (left level : ℕ) → Inspecting
-levels_from m zero l = Inspecting.Sound
+levels_from m zero l = no_fault
 levels_from m (suc left) l = then_inspect (level_from m l (m.counts.nodes + 1) 0 0) (levels_from m left (l + 1))
 
 unfoldable pub inspection : Memory → Inspecting
@@ -84,11 +84,11 @@ unfoldable pub inspect_permit : State → (nodes versions : List ℕ) → Permit
 inspect_permit s nodes versions =
     deny_if (not (lawful_store s nodes versions)) Corrupt
     (deny_if (not (idle_below s s.processes)) Busy
-    Granted)
+    (Ok tt))
 
 unfoldable pub inspect_by : Permit → Memory → Inspecting
-inspect_by (Denied r) m = Inspecting.Refused r
-inspect_by Granted m = inspection m
+inspect_by (Err r) m = Err r
+inspect_by (Ok _) m = inspection m
 
 unfoldable pub inspect_of : State → (nodes versions : List ℕ) → Inspecting
 inspect_of s nodes versions = inspect_by (inspect_permit s nodes versions) (memory_of s nodes versions)

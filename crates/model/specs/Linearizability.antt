@@ -10,7 +10,7 @@
 --   event; took effect               event: an accepted start, or a step not refused; effect: the linearization point
 --   sweep of a span                  scan
 use Rattle.std.specs.Prelude.{ℕ, zero, suc, ◌+◌, ◌*◌, ◌≤◌, ◌<◌, Bool, true, false, List, [], ◌∷◌, ◌++◌, ◌≢◌, ◌⊎◌, ◌≡◌, eqb, leb, length, get_or}
-use Rattle.model.specs.Types.{Found, Swept, NoProcess, Busy, Permit, Granted, Denied, Counts, Finish, Starting, Stepping, Looking, Inspecting, Status}
+use Rattle.model.specs.Types.{Found, Swept, NoProcess, Busy, Permit, Ok, Err, Counts, Finish, Looking, Status, Some, Option, Progress, no_fault, idle_status}
 use Rattle.std.specs.Prelude.{if◌then◌else◌}
 use Rattle.model.specs.Layout.{limits, node_words, version_words}
 use Rattle.model.specs.Numbers.{number_of, answer_number, no_version}
@@ -65,11 +65,11 @@ completed_effects (c ∷ cs) =
 -- "Running are the calls that standing shows when the list is done; one has taken effect if its effect tick there is
 -- above 0"
 unfoldable pub shown_effect : Status → (process : ℕ) → Pending → List Effected
-shown_effect (Status.Refused r) i c = []
-shown_effect Status.Idle i c = []
-shown_effect (Status.Running kind start e) i no_call = []
-shown_effect (Status.Running kind start e) i (has_call c) =
-    if eqb e 0 then [] else record { process = i; invoked = c; tick = e } ∷ []
+shown_effect (Err r) i c = []
+shown_effect (Ok Option.None) i c = []
+shown_effect (Ok (Some r)) i no_call = []
+shown_effect (Ok (Some r)) i (has_call c) =
+    if eqb r.effect 0 then [] else record { process = i; invoked = c; tick = r.effect } ∷ []
 
 unfoldable pub running_effects : (status : ℕ → Status) → (ℕ → Pending) → (processes : ℕ) → List Effected
 running_effects s f zero = []
@@ -174,13 +174,13 @@ pub record Settled (K W : ℕ) (log : List Action) (es : List Effected) (c : Com
 -- status shows the call that was started, "and that too is the tick of a step of its station after its start"; P1: "The sweep's effect
 -- tick is 0"
 abbrev pub StandsFor : List Action → (process : ℕ) → Pending → Status → Type 0
-StandsFor log i c (Status.Refused r) = ⊥
-StandsFor log i no_call Status.Idle = Unit {0}
-StandsFor log i (has_call c) Status.Idle = ⊥
-StandsFor log i no_call (Status.Running kind start e) = ⊥
-StandsFor log i (has_call c) (Status.Running kind start e) =
-    (kind ≡ kind_of c.operation) × (start ≡ c.start) × (takes_effect c.operation ≡ false → e ≡ 0)
-    × (e ≢ 0 → StepAt log e i × (c.start < e))
+StandsFor log i c (Err r) = ⊥
+StandsFor log i no_call (Ok Option.None) = Unit {0}
+StandsFor log i (has_call c) (Ok Option.None) = ⊥
+StandsFor log i no_call (Ok (Some r)) = ⊥
+StandsFor log i (has_call c) (Ok (Some r)) =
+    (r.kind ≡ kind_of c.operation) × (r.start ≡ c.start) × (takes_effect c.operation ≡ false → r.effect ≡ 0)
+    × (r.effect ≢ 0 → StepAt log r.effect i × (c.start < r.effect))
 
 -- what a running call has shown so far
 abbrev pub HasShown : (K W : ℕ) → List Effected → Pending → List Sight → Type 0
@@ -197,9 +197,9 @@ counted_at n [] = 0
 counted_at n (c ∷ cs) = (if eqb (answer_number c.told.answer) n then 1 else 0) + counted_at n cs
 
 abbrev pub running_as : Status → ℕ
-running_as (Status.Refused r) = 0
-running_as Status.Idle = 0
-running_as (Status.Running kind start e) = 1
+running_as (Err r) = 0
+running_as (Ok Option.None) = 0
+running_as (Ok (Some r)) = 1
 
 -- the processes below n that have a call
 unfoldable pub running_below : (status : ℕ → Status) → ℕ → ℕ
@@ -208,13 +208,13 @@ running_below s (suc n) = running_as (s n) + running_below s n
 
 -- "Damage is refusal 10 or 11."
 abbrev pub NoDamage : Permit → Type 0
-NoDamage Granted = Unit {0}
-NoDamage (Denied r) = (number_of r ≢ 10) × (number_of r ≢ 11)
+NoDamage (Ok _) = Unit {0}
+NoDamage (Err r) = (number_of r ≢ 10) × (number_of r ≢ 11)
 
 -- a look that is granted is the map's to answer
 abbrev pub LookAsDue : Permit → Looking → Type 0
-LookAsDue Granted o = Unit {0}
-LookAsDue (Denied r) o = o ≡ Looking.Refused r
+LookAsDue (Ok _) o = Unit {0}
+LookAsDue (Err r) o = o ≡ Err r
 
 -- "Each is given if its condition is the first met in the order below, and never otherwise."
 abbrev pub AsDue : Permit → Observation → Type 0
@@ -224,13 +224,13 @@ AsDue d (looked k back o) = LookAsDue d o
 
 -- an event is told its tick
 abbrev pub TickTold : (tick : ℕ) → Observation → Type 0
-TickTold tick (started i op (Starting.Refused r)) = Unit {0}
-TickTold tick (started i op (Starting.Started t)) = t ≡ tick
-TickTold tick (stepped i (Stepping.Refused r)) = Unit {0}
-TickTold tick (stepped i (Stepping.Moved t)) = t ≡ tick
-TickTold tick (stepped i (Stepping.Waited t)) = t ≡ tick
-TickTold tick (stepped i (Stepping.Shown t x)) = t ≡ tick
-TickTold tick (stepped i (Stepping.Finished f)) = f.finish ≡ tick
+TickTold tick (started i op (Err r)) = Unit {0}
+TickTold tick (started i op (Ok t)) = t ≡ tick
+TickTold tick (stepped i (Err r)) = Unit {0}
+TickTold tick (stepped i (Ok (Progress.Moved t))) = t ≡ tick
+TickTold tick (stepped i (Ok (Progress.Waited t))) = t ≡ tick
+TickTold tick (stepped i (Ok (Progress.Shown t x))) = t ≡ tick
+TickTold tick (stepped i (Ok (Progress.Finished f))) = f.finish ≡ tick
 TickTold tick (looked k back o) = Unit {0}
 
 abbrev pub counts_of : Map → Counts
@@ -275,11 +275,11 @@ pub record Beyond (K W : ℕ) (v : View) (h : History) : Type 0 where
   -- "There are seven counts"
   pub tally_words : length v.tally ≡ limits.tally
   -- "Standing: 10, 5": of these only 5, and just where it is due
-  pub no_such_process : (i : ℕ) → h.processes ≤ i → v.status i ≡ Status.Refused NoProcess
+  pub no_such_process : (i : ℕ) → h.processes ≤ i → v.status i ≡ Err NoProcess
   -- "7 busy (also inspection while any station below the count has a call)"
-  pub busy_inspected : (i : ℕ) → i < h.processes → v.status i ≢ Status.Idle → v.inspected ≡ Inspecting.Refused Busy
+  pub busy_inspected : (i : ℕ) → i < h.processes → v.status i ≢ idle_status → v.inspected ≡ Err Busy
   -- "An idle store after any list of demand 3 is sound."
-  pub idle_sound : ((i : ℕ) → i < h.processes → v.status i ≡ Status.Idle) → v.inspected ≡ Inspecting.Sound
+  pub idle_sound : ((i : ℕ) → i < h.processes → v.status i ≡ idle_status) → v.inspected ≡ no_fault
 
 pub record Claim (K W : ℕ) (v : View) (h : History) : Type 0 where
   pub demanded : Demanded K W v h
@@ -289,10 +289,10 @@ pub record Claim (K W : ℕ) (v : View) (h : History) : Type 0 where
 
 -- an opening is refused as due, and else accepted
 abbrev pub OpensAs : {C : Type 0} → Permit → Opens C → Type 0
-OpensAs Granted (opened w) = Unit {0}
-OpensAs Granted (refused r) = ⊥
-OpensAs (Denied d) (opened w) = ⊥
-OpensAs (Denied d) (refused r) = r ≡ d
+OpensAs (Ok _) (opened w) = Unit {0}
+OpensAs (Ok _) (refused r) = ⊥
+OpensAs (Err d) (opened w) = ⊥
+OpensAs (Err d) (refused r) = r ≡ d
 
 abbrev pub effects_in : {S : System} → Run S → List Effected
 effects_in {S} r = effects_of (S.status r.store) r.history
@@ -313,7 +313,7 @@ pub record EffectsStay {S : System} (now later : Run S) : Type 0 where
 -- a tally of zeroes. Each of these gets state, tables and tally as the one before left them, and nobody else writes them."
 pub record Linearizable (S : System) : Type 0 where
   -- whatever an opening may lawfully ask for can be asked of it
-  pub asks : (f : Fitting) → open_due f ≡ Granted → (s : S.Setup) × (S.fitting s ≡ f)
+  pub asks : (f : Fitting) → open_due f ≡ (Ok tt) → (s : S.Setup) × (S.fitting s ≡ f)
   -- "Each is given if its condition is the first met in the order below, and never otherwise."
   pub opens : (s : S.Setup) → OpensAs (open_due (S.fitting s)) (S.fresh s)
   -- tables of whole nodes and versions, of which node 0 and version 0 hold none

@@ -1,6 +1,6 @@
 -- The sequential map: document 01's plain ledger.
 use Rattle.std.specs.Prelude.{ℕ, zero, suc, ◌+◌, List, [], ◌∷◌, ◌++◌, eqb, ltb, leb, length}
-use Rattle.model.specs.Types.{Answer, TooOld, VersionsFull, Added, KeysFull, New, Found, None, Swept, Version, Looking, NoKey, NoVersion}
+use Rattle.model.specs.Types.{Answer, TooOld, VersionsFull, Added, KeysFull, New, Found, None, Swept, Version, Looking, NoKey, NoVersion, Ok, Err}
 use Rattle.std.specs.Prelude.{if◌then◌else◌}
 use Rattle.model.specs.Numbers.{no_version}
 use Rattle.model.specs.Requests.{Operation, put, get, scan}
@@ -87,12 +87,12 @@ applied K W b (scan first last) = record { map = b; reply = record { answer = Sw
 -- "it answers value and stamp of the reading asked, 0 back being the newest, or for a lawful tray 12 where there is no
 -- list and 13 where the list is too short"
 unfoldable pub back_in : List Version → ℕ → Looking
-back_in [] back = Looking.Refused NoVersion
-back_in (v ∷ older) zero = Looking.Shown v
+back_in [] back = Err NoVersion
+back_in (v ∷ older) zero = Ok v
 back_in (v ∷ older) (suc back) = back_in older back
 
 unfoldable pub look_list : List Version → ℕ → Looking
-look_list [] back = Looking.Refused NoKey
+look_list [] back = Err NoKey
 look_list (v ∷ older) back = back_in (v ∷ older) back
 
 unfoldable pub look_in : Map → ℕ → ℕ → Looking

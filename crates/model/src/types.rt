@@ -6,9 +6,10 @@ ghost use Rattle.model.specs.State.{idle_process, fresh_state, closed_state};
 // The width of a key is said here; that it takes two words, in values/src/halves.rt.
 pub type Key = u64;
 
-// What a process was asked for; `Idle` where it has no call.
-#[derive(Clone, Copy)]
+// What a process was asked for; `Idle` where it has no call. No Option of three: a word tells one of the four (`kinds`, `kind_from`).
+#[derive(Clone, Copy, Default, PartialEq, Eq)]
 pub enum Kind {
+    #[default]
     Idle,
     Put,
     Get,
@@ -16,8 +17,9 @@ pub enum Kind {
 }
 
 // Where a call stands. The comment names the procedure of figure 1 that the phase is a part of.
-#[derive(Clone, Copy)]
+#[derive(Clone, Copy, Default, PartialEq, Eq)]
 pub enum Phase {
+    #[default]
     Walk, // findAll
     Read, // get
     Seek, // findLock: the search
@@ -31,7 +33,7 @@ pub enum Phase {
 }
 
 // What a phase is for: which kinds go through it goes by this.
-#[derive(Clone, Copy)]
+#[derive(Clone, Copy, PartialEq, Eq)]
 pub enum Role {
     Searching, // every call's
     Reading, // a get's
@@ -41,7 +43,7 @@ pub enum Role {
 }
 
 // Document 01's answers, in the order in which its plain ledger names them, and behind them the one that no tally counts.
-#[derive(Clone, Copy)]
+#[derive(Clone, Copy, Default, PartialEq, Eq)]
 pub enum Answer {
     TooOld,
     VersionsFull,
@@ -49,12 +51,13 @@ pub enum Answer {
     KeysFull,
     New,
     Found,
+    #[default]
     None,
     Swept,
 }
 
 // Whose an answer is: what goes with it, and what may follow it, goes by this.
-#[derive(Clone, Copy)]
+#[derive(Clone, Copy, PartialEq, Eq)]
 pub enum Class {
     Inserted, // a put's that made its node
     OtherPut, // a put's that made none
@@ -64,9 +67,9 @@ pub enum Class {
 }
 
 // Document 01's refusals 1 to 16, in its order, and document 02's behind them.
-#[derive(Clone, Copy)]
+#[derive(Clone, Copy, PartialEq, Eq)]
 pub enum Refusal {
-    NodeLength,
+    NodeLength = 1,
     VersionLength,
     ProcessCount,
     EventLimit,
@@ -87,7 +90,7 @@ pub enum Refusal {
 
 // What was asked, and the tick of its start: no step changes it. A scan's keys are `key` to `last`; a put and a get have one, their
 // first and their last.
-#[derive(Clone, Copy)]
+#[derive(Clone, Copy, Default)]
 pub struct Call {
     pub kind: Kind,
     pub key: Key,
@@ -99,7 +102,7 @@ pub struct Call {
 }
 
 // Where the call stands: document 01's level L, node p and new node.
-#[derive(Clone, Copy)]
+#[derive(Clone, Copy, Default)]
 pub struct Cursor {
     pub phase: Phase,
     pub level: u32,
@@ -107,15 +110,16 @@ pub struct Cursor {
     pub made: u32,
 }
 
-// The linearization point of the call, once it is there; its tick is 0 before.
-#[derive(Clone, Copy)]
+// The linearization point of the call, once it is there; its tick is 0 before. No Option: both are words of the layout, and
+// `process_back` gives back an answer that stands beside tick 0.
+#[derive(Clone, Copy, Default)]
 pub struct Effect {
     pub answer: Answer,
     pub tick: u32,
 }
 
 // Document 01's station. `preds` has the node remembered at each level.
-#[derive(Clone, Copy)]
+#[derive(Clone, Copy, Default)]
 pub struct Process {
     pub call: Call,
     pub cursor: Cursor,
@@ -124,19 +128,21 @@ pub struct Process {
 }
 
 // Nodes (the head not counted) and versions in use.
-#[derive(Clone, Copy)]
+#[derive(Clone, Copy, Default)]
 pub struct Counts {
     pub nodes: u32,
     pub versions: u32,
 }
 
-// Lengths of the lent tables, in words.
-#[derive(Clone, Copy)]
+// Lengths of the lent tables, in words. Not one type with `Counts`: records in use and words lent are told apart by it.
+#[derive(Clone, Copy, Default)]
 pub struct Lengths {
     pub nodes: u32,
     pub versions: u32,
 }
 
+// No Option of an open state: `closed_state` has all the fields, and `opened` is a word of the header (`header_of`). No Vec: no heap,
+// so there are eight processes, of which the first `processes` may be used.
 #[derive(Clone, Copy)]
 pub struct State {
     pub opened: bool,
@@ -149,7 +155,7 @@ pub struct State {
 }
 
 // A version of a key's value: document 01's reading.
-#[derive(Clone, Copy)]
+#[derive(Clone, Copy, Default)]
 pub struct Version {
     pub value: u32,
     pub timestamp: u32,
@@ -162,7 +168,7 @@ pub struct Item {
     pub version: Version,
 }
 
-// Where a node's link leads, against a key.
+// Where a node's link leads, against a key. `Unused` is no Err: each phase tells four cases apart in one match, and hands none on.
 #[derive(Clone, Copy)]
 pub enum Ahead {
     Unused, // to a node that is not in use
@@ -171,7 +177,7 @@ pub enum Ahead {
     Past, // to the end, or to a greater key
 }
 
-// What a phase asks of the process.
+// What a phase asks of the process. `Refuse` is no Err: laws and definitions take one of seven moves, of a Result each would match twice.
 #[derive(Clone, Copy)]
 pub enum Move {
     Refuse, // damage
@@ -184,11 +190,7 @@ pub enum Move {
 }
 
 // The call may go on, or is refused.
-#[derive(Clone, Copy)]
-pub enum Permit {
-    Granted,
-    Denied(Refusal),
-}
+pub type Permit = Result<(), Refusal>;
 
 // What the finishing step tells of a call.
 #[derive(Clone, Copy)]
@@ -202,68 +204,58 @@ pub struct Finish {
     pub finish: u32,
 }
 
-// Outcomes of opening, of a start and of a step, each beside the state that it leaves.
+// What an accepted step did. Each but the last names the tick of its event first.
 #[derive(Clone, Copy)]
-pub enum Opening {
-    Refused(Refusal),
-    Opened,
-}
-
-#[derive(Clone, Copy)]
-pub struct OpenResult {
-    pub outcome: Opening,
-    pub state: State,
-}
-
-#[derive(Clone, Copy)]
-pub enum Starting {
-    Refused(Refusal),
-    Started(u32),
-}
-
-#[derive(Clone, Copy)]
-pub struct StartResult {
-    pub outcome: Starting,
-    pub state: State,
-}
-
-#[derive(Clone, Copy)]
-pub enum Stepping {
-    Refused(Refusal),
+pub enum Progress {
     Moved(u32),
-    Waited(u32),
+    Waited(u32), // at a held lock
     Shown(u32, Item),
     Finished(Finish),
 }
 
+// Outcomes of opening, of a start, which tells its tick, and of a step.
+pub type Opening = Result<(), Refusal>;
+
+pub type Starting = Result<u32, Refusal>;
+
+pub type Stepping = Result<Progress, Refusal>;
+
+// What a call answers, and the state that it leaves.
 #[derive(Clone, Copy)]
-pub struct StepResult {
-    pub outcome: Stepping,
+pub struct Answered<T> {
+    pub outcome: Result<T, Refusal>,
     pub state: State,
 }
 
-// Outcomes of the calls that change nothing.
+pub type OpenResult = Answered<()>;
+
+pub type StartResult = Answered<u32>;
+
+pub type StepResult = Answered<Progress>;
+
+// What a look shows.
+pub type Looking = Result<Version, Refusal>;
+
+// The level and the node that an inspection reached.
 #[derive(Clone, Copy)]
-pub enum Looking {
-    Refused(Refusal),
-    Shown(Version),
+pub struct Fault {
+    pub level: u32,
+    pub node: u32,
 }
 
-// Document 01's inspection: sound, or the level and the node reached.
+// Document 01's inspection: no fault, or the first.
+pub type Inspecting = Result<Option<Fault>, Refusal>;
+
+// A call that runs: its kind, start tick and effect tick.
 #[derive(Clone, Copy)]
-pub enum Inspecting {
-    Refused(Refusal),
-    Sound,
-    Fault(u32, u32),
+pub struct Running {
+    pub kind: Kind,
+    pub start: u32,
+    pub effect: u32,
 }
 
-// Document 01's standing: idle, or the call's kind, start tick and effect tick.
-#[derive(Clone, Copy)]
-pub enum Status {
-    Refused(Refusal),
-    Idle,
-    Running(Kind, u32, u32),
-}
+// Document 01's standing: idle, or the call that runs.
+pub type Status = Result<Option<Running>, Refusal>;
 
 // The sizes and limits of document 01 as numbers, for whoever lends memory.
 #[derive(Clone, Copy)]
@@ -319,32 +311,7 @@ impl Process {
     pub fn idle() -> Self
         ensures { result ≡ idle_process }
     {
-        let call = Call {
-            kind: Kind::Idle,
-            key: 0,
-            last: 0,
-            value: 0,
-            timestamp: 0,
-            top: 0,
-            start: 0,
-        };
-        let cursor = Cursor {
-            phase: Phase::Walk,
-            level: 0,
-            pred: 0,
-            made: 0,
-        };
-        let effect = Effect {
-            answer: Answer::None,
-            tick: 0,
-        };
-        let preds = [0; State::LEVELS];
-        Self {
-            call,
-            cursor,
-            effect,
-            preds,
-        }
+        Self::default()
     }
 }
 
@@ -373,7 +340,7 @@ impl State {
 
     pub const COUNT: u32 = 4294967295;
 
-    // Never called: it ties the constants to the definitions.
+    // Never called: it ties the constants to the definition `limits`, whose record is of this type alone.
     pub fn limits() -> Limits
         ensures { result ≡ limits }
     {
@@ -395,20 +362,14 @@ impl State {
     pub fn fresh(processes: u32, limit: u32, lengths: Lengths) -> Self
         ensures { result ≡ fresh_state processes limit lengths }
     {
-        let idle = Process::idle();
-        let process = [idle; Self::PROCESSES as usize];
-        let counts = Counts {
-            nodes: 0,
-            versions: 0,
-        };
         Self {
             opened: true,
             processes,
             limit,
             events: 0,
             lengths,
-            counts,
-            process,
+            counts: Counts::default(),
+            process: [Process::idle(); Self::PROCESSES as usize],
         }
     }
 
@@ -416,24 +377,9 @@ impl State {
     pub fn closed() -> Self
         ensures { result ≡ closed_state }
     {
-        let idle = Process::idle();
-        let process = [idle; Self::PROCESSES as usize];
-        let lengths = Lengths {
-            nodes: 0,
-            versions: 0,
-        };
-        let counts = Counts {
-            nodes: 0,
-            versions: 0,
-        };
         Self {
             opened: false,
-            processes: 0,
-            limit: 0,
-            events: 0,
-            lengths,
-            counts,
-            process,
+            ..Self::fresh(0, 0, Lengths::default())
         }
     }
 }
@@ -451,7 +397,7 @@ impl NodeOffsets {
 
     pub const LOCKS: usize = 10;
 
-    // Never called: it ties the constants to the definitions.
+    // Never called: it ties the constants to the definition `node_offsets`, whose record is of this type alone.
     pub fn words() -> Self
         ensures { result ≡ node_offsets }
     {
@@ -473,7 +419,7 @@ impl VersionOffsets {
 
     pub const PREV: usize = 2;
 
-    // Never called: it ties the constants to the definitions.
+    // Never called: it ties the constants to the definition `version_offsets`, whose record is of this type alone.
     pub fn words() -> Self
         ensures { result ≡ version_offsets }
     {

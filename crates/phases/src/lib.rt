@@ -3,4 +3,3 @@
 
 pub mod moves;
 pub mod search;
-pub mod types;

@@ -1,10 +1,9 @@
-// The moves that carry a cursor, the test for the one that refuses, and the step of a put that writes nothing.
+// The moves that carry a cursor, and the test for the one that refuses. Each makes another variant, which no parameter gives.
 ghost use Rattle.std.specs.Prelude.{◌≡◌};
 ghost use Rattle.model.specs.Phases.{at, committed, refuses};
 ghost use Rattle.phases.specs.Types.{Go, Note, Show};
 
-use crate::types::Transition;
-use model::types::{Answer, Counts, Cursor, Item, Move, Phase};
+use model::types::{Answer, Cursor, Item, Move, Phase};
 
 // The cursor moves.
 pub fn go(c: Cursor, phase: Phase, level: u32, pred: u32) -> Move
@@ -14,7 +13,7 @@ pub fn go(c: Cursor, phase: Phase, level: u32, pred: u32) -> Move
         phase,
         level,
         pred,
-        made: c.made,
+        ..c
     })
 }
 
@@ -26,7 +25,7 @@ pub fn note(c: Cursor, phase: Phase, level: u32, pred: u32) -> Move
         phase,
         level,
         pred,
-        made: c.made,
+        ..c
     })
 }
 
@@ -37,9 +36,8 @@ pub fn show(c: Cursor, node: u32, item: Item) -> Move
     Move::Show(
         Cursor {
             phase: Phase::Follow,
-            level: c.level,
             pred: node,
-            made: c.made,
+            ..c
         },
         item,
     )
@@ -52,34 +50,15 @@ pub fn commit(c: Cursor, made: u32, answer: Answer) -> Move
     Move::Commit(
         Cursor {
             phase: Phase::Release,
-            level: c.level,
-            pred: c.pred,
             made,
+            ..c
         },
         answer,
     )
 }
 
-pub fn is_refusal(m: Move) -> bool
-    ensures { result ≡ refuses m }
+pub fn is_refusal(mv: Move) -> bool
+    ensures { result ≡ refuses mv }
 {
-    match m {
-        Move::Refuse => true,
-        Move::Wait => false,
-        Move::Go(_) => false,
-        Move::Note(_) => false,
-        Move::Commit(_, _) => false,
-        Move::Show(_, _) => false,
-        Move::End(_, _, _) => false,
-    }
-}
-
-// The put takes effect with an answer that changes no table.
-pub fn keep(c: Cursor, answer: Answer, counts: Counts) -> Transition
-    ensures { result ≡ (record { mv = committed c c.made answer; counts = counts }) }
-{
-    Transition {
-        mv: commit(c, c.made, answer),
-        counts,
-    }
+    matches!(mv, Move::Refuse)
 }

@@ -1,4 +1,4 @@
 pub mod Types
 pub mod Text
 pub mod Lines
-pub mod Sentences
+pub mod Words

@@ -1,7 +1,6 @@
 // One line of a sheet's output: its bytes in a lent buffer.
 #![tactic(auto)]
 
-mod formats;
 pub mod print;
 mod text;
 pub mod types;

@@ -1,110 +1,112 @@
-// The line that an answer prints. What it says is chosen by value and then written, so that no choice lends the buffer.
-ghost use Rattle.std.specs.Prelude.{◌≡◌, [], ◌∷◌, ◌+◌, ◌≤◌, leb, length};
-ghost use Rattle.printer.specs.Lines.{line_of, room, print_of};
-ghost use Rattle.printer.specs.Sentences.{sentence, longest, Opens, Closes, said};
+// The line that an answer prints.
+ghost use Rattle.std.specs.Prelude.{◌≡◌, ◌+◌, ◌≤◌, [], ◌∷◌, leb, length};
+ghost use Rattle.printer.specs.Text.{ascii, decimal, line, Wrote};
+ghost use Rattle.printer.specs.Lines.{kind_word, answer_word, line_of, room, print_of};
 
-use crate::formats;
-use crate::text::put_sentence;
-use crate::types::{Format, Line, Sentence};
+use crate::text::put_line;
+use crate::types::Line;
+use crate::types::Word::{Number, Text, Tray};
 use model::types::{Answer, Finish, Key, Kind};
 use numbers::number_of;
 
-// How the line of a finished call begins.
-#[tactic(auto, unfolding(crate::specs::Sentences::byte_case, crate::specs::Sentences::filled, crate::specs::Sentences::most, crate::specs::Sentences::number_at, crate::specs::Sentences::piece))]
-fn kind_format(kind: Kind) -> Format
-    ensures { Opens kind result }
+fn kind_name(kind: Kind) -> &'static str
+    ensures { result.now ≡ kind_word kind }
 {
     match kind {
-        Kind::Idle => formats::DONE_IDLE,
-        Kind::Put => formats::DONE_PUT,
-        Kind::Get => formats::DONE_GET,
-        Kind::Scan => formats::DONE_SCAN,
+        Kind::Idle => "idle",
+        Kind::Put => "put",
+        Kind::Get => "get",
+        Kind::Scan => "sweep",
     }
 }
 
-// How it goes on.
-#[tactic(auto, unfolding(crate::specs::Sentences::byte_case, crate::specs::Sentences::filled, crate::specs::Sentences::most, crate::specs::Sentences::number_at, crate::specs::Sentences::piece))]
-fn answer_format(answer: Answer) -> Format
-    ensures { Closes answer result }
+fn answer_name(answer: Answer) -> &'static str
+    ensures { result.now ≡ answer_word answer }
 {
     match answer {
-        Answer::TooOld => formats::TOO_OLD,
-        Answer::VersionsFull => formats::VERSIONS_FULL,
-        Answer::Added => formats::ADDED,
-        Answer::KeysFull => formats::KEYS_FULL,
-        Answer::New => formats::NEW,
-        Answer::Found => formats::FOUND,
-        Answer::None => formats::NONE,
-        Answer::Swept => formats::SWEPT,
+        Answer::TooOld => "too-old",
+        Answer::VersionsFull => "readings-full",
+        Answer::Added => "added",
+        Answer::KeysFull => "trays-full",
+        Answer::New => "new",
+        Answer::Found => "found",
+        Answer::None => "none",
+        Answer::Swept => "swept",
     }
 }
 
-// A line of one half and at most four numbers; one that it has no place for is 0, and so is the key.
-fn one_half(opening: Format, key: Key, first: u32, second: u32, third: u32, fourth: u32) -> Sentence
-    ensures { result ≡ said opening key (first ∷ second ∷ third ∷ fourth ∷ 0 ∷ 0 ∷ []) }
+fn put_open(
+    out: &mut [u8],
+    at: usize,
+    keys: u32,
+    versions: u32,
+    processes: u32,
+    limit: u32,
+) -> usize
+    requires { at + room ≤ length out.old }
+    ensures { Wrote out.old out.new at result (line_of (Line.Opened keys versions processes limit)) }
 {
-    Sentence {
-        opening,
-        closing: formats::NOTHING,
-        key,
-        numbers: [first, second, third, fourth, 0, 0],
-    }
+    let words = [
+        Text("open"),
+        Number(keys),
+        Number(versions),
+        Number(processes),
+        Number(limit),
+    ];
+    put_line(out, at, &words)
 }
 
-// The one line of two halves: its kind and its answer are chosen apart.
-fn done(process: u32, f: Finish) -> Sentence
-    ensures result_value { sentence result ≡ line_of (Line.Done process f) }
-    ensures result_bound { longest result ≤ room }
+// `how` is `on` or `wait`.
+fn put_step(out: &mut [u8], at: usize, process: u32, tick: u32, how: &'static str) -> usize
+    requires room { at + room ≤ length out.old }
+    requires short { length how.now ≤ 4 }
+    ensures { Wrote out.old out.new at result
+        (line (ascii "step" ∷ decimal process ∷ decimal tick ∷ how.now ∷ [])) }
 {
-    let kind = f.kind;
-    let answer = f.answer;
-    let opening = kind_format(kind);
-    let closing = answer_format(answer);
-    Sentence {
-        opening,
-        closing,
-        key: 0,
-        numbers: [process, f.value, f.timestamp, f.start, f.effect, f.finish],
-    }
+    put_line(
+        out,
+        at,
+        &[Text("step"), Number(process), Number(tick), Text(how)],
+    )
 }
 
-// The format of each line, and its numbers in the order of their places.
-#[tactic(auto, unfolding(crate::specs::Sentences::byte_case, crate::specs::Sentences::filled, crate::specs::Sentences::most, crate::specs::Sentences::number_at, crate::specs::Sentences::piece))]
-fn sentence_of(line: Line) -> Sentence
-    ensures result_value { sentence result ≡ line_of line }
-    ensures result_bound { longest result ≤ room }
+fn put_look(out: &mut [u8], at: usize, key: Key, back: u32, value: u32, timestamp: u32) -> usize
+    requires { at + room ≤ length out.old }
+    ensures { Wrote out.old out.new at result (line_of (Line.Looked key back value timestamp)) }
 {
-    match line {
-        Line::Opened {
-            keys,
-            versions,
-            processes,
-            limit,
-        } => one_half(formats::OPEN, 0, keys, versions, processes, limit),
-        Line::Started { process, tick } => one_half(formats::START, 0, process, tick, 0, 0),
-        Line::Stepped { process, tick } => one_half(formats::STEP_ON, 0, process, tick, 0, 0),
-        Line::Waited { process, tick } => one_half(formats::STEP_WAIT, 0, process, tick, 0, 0),
-        Line::Done { process, finish } => done(process, finish),
-        Line::Looked {
-            key,
-            back,
-            value,
-            timestamp,
-        } => one_half(formats::LOOK, key, back, value, timestamp, 0),
-        Line::Sound => one_half(formats::SOUND, 0, 0, 0, 0, 0),
-        Line::Fault { level, node } => one_half(formats::FAULT, 0, level, node, 0, 0),
-        Line::Refused(refusal) => one_half(formats::REFUSED, 0, number_of(refusal), 0, 0, 0),
-    }
+    let words = [
+        Text("look"),
+        Tray(key),
+        Number(back),
+        Number(value),
+        Number(timestamp),
+    ];
+    put_line(out, at, &words)
+}
+
+fn put_done(out: &mut [u8], at: usize, process: u32, finish: Finish) -> usize
+    requires { at + room ≤ length out.old }
+    ensures { Wrote out.old out.new at result (line_of (Line.Done process finish)) }
+{
+    let words = [
+        Text("done"),
+        Number(process),
+        Text(kind_name(finish.kind)),
+        Text(answer_name(finish.answer)),
+        Number(finish.value),
+        Number(finish.timestamp),
+        Number(finish.start),
+        Number(finish.effect),
+        Number(finish.finish),
+    ];
+    put_line(out, at, &words)
 }
 
 // Whether a line has room from `at` on.
 pub fn has_room(out: &[u8], at: usize) -> bool
     ensures { result ≡ leb (at + room) (length out.now) }
 {
-    if at <= out.len() {
-        return Line::ROOM <= out.len() - at;
-    }
-    false
+    out.get(at..).is_some_and(|rest| Line::ROOM <= rest.len())
 }
 
 impl Line {
@@ -115,12 +117,44 @@ impl Line {
     // written and the position stays.
     #[tactic(auto, unfolding(crate::specs::Lines::print_of))]
     pub fn print(self, out: &mut [u8], at: usize) -> usize
-        ensures result_after { record { bytes = out.new; next = result } ≡ print_of out.old at self }
+        ensures printed { record { bytes = out.new; next = result } ≡ print_of out.old at self }
         ensures upper_bound { at ≤ length out.old → result ≤ length out.old }
     {
+        // No Option: `print_of` has a position in both cases, and a caller would put the old one for None.
         if !has_room(out, at) {
             return at;
         }
-        put_sentence(out, at, sentence_of(self))
+        // Each arm calls `put_line`: one match that gives the words as a slice was tried, and the borrow rules do not cover it.
+        match self {
+            Line::Opened {
+                keys,
+                versions,
+                processes,
+                limit,
+            } => put_open(out, at, keys, versions, processes, limit),
+            Line::Started { process, tick } => {
+                put_line(out, at, &[Text("start"), Number(process), Number(tick)])
+            }
+            Line::Stepped { process, tick } => put_step(out, at, process, tick, "on"),
+            Line::Waited { process, tick } => put_step(out, at, process, tick, "wait"),
+            Line::Done { process, finish } => put_done(out, at, process, finish),
+            Line::Looked {
+                key,
+                back,
+                value,
+                timestamp,
+            } => put_look(out, at, key, back, value, timestamp),
+            Line::Sound => put_line(out, at, &[Text("sound")]),
+            Line::Fault { level, node } => put_line(
+                out,
+                at,
+                &[Text("fault"), Number(level), Number(node)],
+            ),
+            Line::Refused(refusal) => put_line(
+                out,
+                at,
+                &[Text("refused"), Number(number_of(refusal))],
+            ),
+        }
     }
 }

@@ -40,14 +40,10 @@ pub enum Line {
     Refused(Refusal),
 }
 
-// How a half of a line reads: a byte stands for itself, but `0` for the key and `1` to `6` for the numbers; a dot ends it.
-pub type Format = [u8; 25];
-
-// What a line says: how its two halves read, and the key and the numbers that stand in their places.
+// A word of a line. A key has up to 20 digits, any other number up to 10.
 #[derive(Clone, Copy)]
-pub struct Sentence {
-    pub opening: Format,
-    pub closing: Format,
-    pub key: Key,
-    pub numbers: [u32; 6],
+pub enum Word {
+    Text(&'static str),
+    Number(u32),
+    Tray(Key),
 }

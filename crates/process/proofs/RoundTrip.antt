@@ -1,24 +1,21 @@
 -- Words that are a process are the words of the process that they are decoded to, and a process is decoded from its words.
 use Prim.Native.Nat.{ℕ, zero, suc, ◌≤◌, ◌<◌}
 use mathlib.Core.Bool.{Bool, true, false, ◌&&◌, and-eq-true_iff}
-use mathlib.Core.List.{List, ◌++◌}
+use mathlib.Core.List.{List}
 use mathlib.Core.Path.{◌≡◌, refl, sym, ap, ◌∙◌}
 use native.Mathlib.Omega.{arith}
 use lib.Dec.{eqb, ltb}
 use lib.ListN.{length, get_or, drop, length-drop}
-use lib.Seq.{take_all, sets}
+use lib.Seq.{take_all}
+use borrow.Author.Rules.{rules}
 use borrow.Author.Tests.{ltb-true, eqb-true, eqb-false, lt-ltb}
 use Rattle.model.specs.declared.types.Process.{Process}
 use Rattle.model.specs.Layout.{word_size, levels, low_half}
-use Rattle.model.proofs.Laws.{answer_at}
+use Rattle.model.proofs.Laws.{answer_at, answer_below}
 use Rattle.model.proofs.Words.{low_joined, high_joined, joined_halves}
-use Rattle.process.specs.ProcessWords.{sizes, process_offsets, process_words, process_from, known_process, call_words, cursor_words, effect_words}
-use Rattle.model.specs.declared.types.Answer.{Answer}
-use Rattle.model.specs.declared.types.Answer.TheVariants.{TooOld, VersionsFull, Added, KeysFull, New, Found, None, Swept}
+use Rattle.process.specs.ProcessWords.{sizes, process_offsets, process_words, process_from, known_process}
 use Rattle.model.specs.declared.types.Kind.{Kind}
-use Rattle.model.specs.declared.types.Kind.TheVariants.{Idle, Put, Get, Scan}
 use Rattle.model.specs.declared.types.Phase.{Phase}
-use Rattle.model.specs.declared.types.Phase.TheVariants.{Walk, Read, Seek, Lock, Check, Update, Make, Link, Release, Follow}
 use Rattle.model.specs.Numbers.{answer_number, answers, answer_of, kind_number, kinds, kind_from, phase_number, phases, phase_from}
 use Rattle.process.proofs.Heads.{heads, heads_are, spelt}
 
@@ -48,33 +45,10 @@ unfolding answer_number
 answer_back n h = eqb-true _ _ (below (length answers) (λ n. eqb (answer_number (answer_of n)) n) refl n h)
 
 pub kind_from_lem : (k : Kind) → (kind_from (kind_number k) ≡ k) × (ltb (kind_number k) (length kinds) ≡ true)
-kind_from_lem Idle = (refl, refl)
-kind_from_lem Put = (refl, refl)
-kind_from_lem Get = (refl, refl)
-kind_from_lem Scan = (refl, refl)
+kind_from_lem = search rules
 
 phase_from_lem : (p : Phase) → (phase_from (phase_number p) ≡ p) × (ltb (phase_number p) (length phases) ≡ true)
-phase_from_lem Walk = (refl, refl)
-phase_from_lem Read = (refl, refl)
-phase_from_lem Seek = (refl, refl)
-phase_from_lem Lock = (refl, refl)
-phase_from_lem Check = (refl, refl)
-phase_from_lem Update = (refl, refl)
-phase_from_lem Make = (refl, refl)
-phase_from_lem Link = (refl, refl)
-phase_from_lem Release = (refl, refl)
-phase_from_lem Follow = (refl, refl)
-
-answer_below : (a : Answer) → ltb (answer_number a) (length answers) ≡ true
-unfolding answer_number
-answer_below TooOld = refl
-answer_below VersionsFull = refl
-answer_below Added = refl
-answer_below KeysFull = refl
-answer_below New = refl
-answer_below Found = refl
-answer_below None = refl
-answer_below Swept = refl
+phase_from_lem = search rules
 
 -- ---- from words and back
 
@@ -137,20 +111,5 @@ process_known p = simp (
   lt-ltb (low_half p.call.last) word_size (omega arith),
   (kind_from_lem p.call.kind).1,
   (phase_from_lem p.cursor.phase).1,
-  answer_below p.effect.answer,
+  lt-ltb _ _ (answer_below p.effect.answer),
 )
-
--- ---- all parts written
-
-abbrev written_over : (w : List ℕ) → Process → (preds : List ℕ) → List ℕ
-written_over w p preds =
-    let called = sets w process_offsets.kind (call_words p.call) in
-    let moved = sets called process_offsets.phase (cursor_words p.cursor) in
-    sets (sets moved process_offsets.answer (effect_words p.effect)) process_offsets.preds preds
-
-pub over_written : (w : List ℕ) (p : Process) → length w ≡ sizes.process → length p.preds ≡ levels → written_over w p
-    p.preds ≡ process_words p
-over_written w p h k =
-    ap (λ w. written_over w p p.preds) (sym (spelt sizes.process w h))
-    ∙ ap (written_over (heads sizes.process 0 w) p) (sym (spelt levels p.preds k))
-    ∙ ap (λ preds. call_words p.call ++ cursor_words p.cursor ++ effect_words p.effect ++ preds) (spelt levels p.preds k)

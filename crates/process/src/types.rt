@@ -20,7 +20,7 @@ impl Sizes {
 
     pub const STATE: usize = 177;
 
-    // Never called: it ties the constants to the definitions.
+    // Never called: it ties the constants to the definition `sizes`, whose record is of this type alone.
     pub fn words() -> Self
         ensures { result ≡ sizes }
     {
@@ -87,7 +87,7 @@ impl ProcessOffsets {
 
     pub const PREDS: usize = 15;
 
-    // Never called: it ties the constants to the definitions.
+    // Never called: it ties the constants to the definition `process_offsets`, whose record is of this type alone.
     pub fn words() -> Self
         ensures { result ≡ process_offsets }
     {

@@ -1,4 +1,4 @@
-// The calls that change nothing and read a part of the store: look and status.
+// The calls that change nothing and read a part of the store: look and status, with document 01's operands.
 #![tactic(auto)]
 
 pub mod look;

@@ -1,4 +1,5 @@
 -- Laws of the refusals: what a test tells, and what a call that is not refused may go by.
+use Rattle.model.specs.Types.{Permit, Ok, Err}
 use Prim.Native.Nat.{ℕ, zero, suc, ◌-◌, ◌*◌, ◌≤◌, ◌<◌}
 use mathlib.Core.Bool.{Bool, true, false, not, ◌&&◌, and-eq-true_iff}
 use mathlib.Core.List.{List, [], ◌∷◌}
@@ -9,57 +10,69 @@ use borrow.Author.Tests.{leb-false, eqb-true, not-false}
 use lib.Dec.{leb, ltb, eqb}
 use lib.ListN.{length}
 use Rattle.model.specs.declared.types.Kind.{Kind}
-use Rattle.model.specs.declared.types.Permit.{Permit}
-use Rattle.model.specs.declared.types.Permit.TheVariants.{Granted, Denied}
 use Rattle.model.specs.declared.types.Refusal.{Refusal}
 use Rattle.model.specs.declared.types.Refusal.TheVariants.{Corrupt, NoProcess, BadKey, BadRange, Busy, NoCall, Spent}
 use Rattle.model.specs.declared.types.State.{State}
 use Rattle.model.specs.Layout.{limits, node_words, version_words, capacity}
-use Rattle.model.specs.State.{process_at, lawful_key, lawful_nodes, lawful_versions, lawful_length, lawful_state, lawful_store}
+use Rattle.model.specs.State.{no_process, process_at, lawful_key, lawful_nodes, lawful_versions, lawful_length, lawful_state, lawful_store}
 use Rattle.model.specs.Calls.{deny_if, no_such, spent, open_due, open_permit, start_permit, Store, step_permit, look_permit, status_permit}
 use Rattle.model.specs.Inspection.{idle_below, inspect_permit}
 use Rattle.model.specs.Roles.{is_idle}
 use Rattle.model.proofs.Laws.{granted_iff}
 use Rattle.model.proofs.Tests.{leb_iff, eqb_iff}
 use Rattle.tables.specs.Room.{Lent}
-use Rattle.refusals.specs.Order.{or_else}
+use Rattle.std.specs.Result.{result_and}
+use Rattle.std.specs.List.{list_all}
+use Rattle.std.proofs.Math.Seq.{take-suc}
+use Rattle.std.proofs.Math.Bool.{and_comm, and-true}
+use Rattle.std.proofs.lemmas.List.Folds.{list_all-append}
+use Rattle.std.specs.Prelude.{take}
+use Rattle.model.specs.declared.types.Process.{Process}
+
+-- what is given first stands, and behind what is let pass comes the next
+pub and_deny : (b : Bool) (r : Refusal) (p q : Permit) → result_and (deny_if b r p) q ≡ deny_if b r (result_and p q)
+and_deny true r p q = refl
+and_deny false r p q = refl
 
 -- a refusal and whether its condition is met
 pub record Condition : Type 0 where
   pub met : Bool
   pub refusal : Refusal
 
-abbrev pub when : Bool → Refusal → Condition
-when b r = record { met = b; refusal = r }
-
 -- refusals put together from the first to the last, as the code does, and as the definitions have them
 abbrev pub forwards : Permit → List Condition → Permit
 forwards p [] = p
-forwards p (c ∷ cs) = forwards (or_else p (deny_if c.met c.refusal Granted)) cs
+forwards p (c ∷ cs) = forwards (result_and p (deny_if c.met c.refusal (Ok tt))) cs
 
 abbrev pub nested : List Condition → Permit
-nested [] = Granted
+nested [] = Ok tt
 nested (c ∷ cs) = deny_if c.met c.refusal (nested cs)
 
-denied_stays : (r : Refusal) (cs : List Condition) → forwards (Denied r) cs ≡ Denied r
+denied_stays : (r : Refusal) (cs : List Condition) → forwards (Err r) cs ≡ Err r
 denied_stays r [] = refl
 denied_stays r (c ∷ cs) = denied_stays r cs
 
-first_by : (b : Bool) (r : Refusal) (cs : List Condition) → forwards Granted cs ≡ nested cs
-    → forwards (deny_if b r Granted) cs ≡ deny_if b r (nested cs)
+first_by : (b : Bool) (r : Refusal) (cs : List Condition) → forwards (Ok tt) cs ≡ nested cs
+    → forwards (deny_if b r (Ok tt)) cs ≡ deny_if b r (nested cs)
 first_by true r cs e = denied_stays r cs
 first_by false r cs e = e
 
-pub first_met : (cs : List Condition) → forwards Granted cs ≡ nested cs
+-- of any list of conditions both are the first one met
+pub first_met : (cs : List Condition) → forwards (Ok tt) cs ≡ nested cs
 first_met [] = refl
 first_met (c ∷ cs) = first_by c.met c.refusal cs (first_met cs)
 
--- one process less
-pub idle_more : (s : State) (n : ℕ) → 0 < n
-    → idle_below s n ≡ is_idle (process_at s (n - 1)).call.kind && idle_below s (n - 1)
+-- tested one after another from the first, or by number from the last
+pub idle_all : (s : State) (n : ℕ) → n ≤ length s.process → list_all (λ (p : Process). is_idle p.call.kind) (take n s.process) ≡ idle_below s n
 unfolding idle_below
-idle_more s zero h = absurd (omega arith)
-idle_more s (suc n) h = simp unary_clauses
+idle_all s zero h = refl
+idle_all s (suc n) h =
+    rw (
+      take-suc s.process n no_process (omega arith),
+      list_all-append (λ (p : Process). is_idle p.call.kind) (take n s.process) _,
+      idle_all s n (omega arith),
+      and-true (is_idle (process_at s n).call.kind),
+    ) (and_comm (idle_below s n) (is_idle (process_at s n).call.kind))
 
 -- ---- lawful
 
@@ -93,7 +106,7 @@ pub record MayOpen (nodes versions : List ℕ) : Type 0 where
   pub few_versions_lem : length versions ≤ version_words * suc limits.versions
 
 pub may_open : (nodes versions : List ℕ) (processes limit : ℕ) {p : Permit} → p ≡ open_permit nodes versions processes limit
-    → p ≡ Granted → MayOpen nodes versions
+    → p ≡ (Ok tt) → MayOpen nodes versions
 unfolding open_due lawful_length
 may_open nodes versions processes limit e g =
     let f = simp granted_iff at (sym e ∙ g) in
@@ -108,7 +121,7 @@ pub record MayStart (s : State) (nodes versions : List ℕ) (i : ℕ) : Type 0 w
   pub event : s.events < s.limit
 
 pub may_start : (s : State) (nodes versions : List ℕ) (i first last : ℕ) {p : Permit} → p ≡ start_permit s nodes versions i first last
-    → p ≡ Granted → MayStart s nodes versions i
+    → p ≡ (Ok tt) → MayStart s nodes versions i
 unfolding start_permit
 may_start s nodes versions i first last e g =
     let f = simp granted_iff at (sym e ∙ g) in
@@ -119,11 +132,11 @@ may_start s nodes versions i first last e g =
     }
 
 -- what a look and an inspection that are let pass may go by
-pub may_look : (s : State) (nodes versions : List ℕ) (k : ℕ) → look_permit s nodes versions k ≡ Granted → Lawful s nodes versions
+pub may_look : (s : State) (nodes versions : List ℕ) (k : ℕ) → look_permit s nodes versions k ≡ (Ok tt) → Lawful s nodes versions
 unfolding look_permit
 may_look s nodes versions k g = lawful_store_lem s nodes versions (not-false _ (simp granted_iff at g).0)
 
-pub may_inspect : (s : State) (nodes versions : List ℕ) → inspect_permit s nodes versions ≡ Granted → Lawful s nodes versions
+pub may_inspect : (s : State) (nodes versions : List ℕ) → inspect_permit s nodes versions ≡ (Ok tt) → Lawful s nodes versions
 unfolding inspect_permit
 may_inspect s nodes versions g = lawful_store_lem s nodes versions (not-false _ (simp granted_iff at g).0)
 
@@ -132,7 +145,7 @@ pub record MayStep (w : Store) (i : ℕ) : Type 0 where
   pub start : MayStart w.state w.nodes w.versions i
   pub tally : length w.tally ≡ limits.tally
 
-pub may_step : (w : Store) (i : ℕ) {p : Permit} → p ≡ step_permit w i → p ≡ Granted → MayStep w i
+pub may_step : (w : Store) (i : ℕ) {p : Permit} → p ≡ step_permit w i → p ≡ (Ok tt) → MayStep w i
 unfolding step_permit
 may_step w i e g =
     let f = simp granted_iff at (sym e ∙ g) in
@@ -148,7 +161,7 @@ may_step w i e g =
     }
 
 -- where standing is told, the process stands in the array
-pub may_tell : (s : State) (i : ℕ) {p : Permit} → p ≡ status_permit s i → p ≡ Granted → i < limits.processes
+pub may_tell : (s : State) (i : ℕ) {p : Permit} → p ≡ status_permit s i → p ≡ (Ok tt) → i < limits.processes
 unfolding status_permit
 may_tell s i e g =
     let f = simp granted_iff at (sym e ∙ g) in
@@ -183,7 +196,7 @@ module _
         (deny_if (ltb last first) BadRange
         (deny_if (not (is_idle kind)) Busy
         (deny_if (spent s) Spent
-        Granted)))))
+        (Ok tt))))))
     unfolding start_permit
     start_kind first last =
         after_ten_and_five (lawful_store s nodes versions) s.processes i _ _
@@ -195,7 +208,7 @@ module _
         (deny_if (no_such s i) NoProcess
         (deny_if (is_idle kind) NoCall
         (deny_if (spent s) Spent
-        Granted)))
+        (Ok tt))))
     unfolding step_permit
     step_kind tally =
         let t = lawful_store s nodes versions && eqb (length tally) limits.tally in
@@ -205,6 +218,6 @@ module _
     -- a step's permit by what each test told
     pub step_by_lem : (tally : List ℕ) (l t p k e : Bool) → lawful_store s nodes versions ≡ l → eqb (length tally) limits.tally ≡ t
         → no_such s i ≡ p → is_idle kind ≡ k → spent s ≡ e
-        → deny_if (not (l && t)) Corrupt (deny_if p NoProcess (deny_if k NoCall (deny_if e Spent Granted)))
+        → deny_if (not (l && t)) Corrupt (deny_if p NoProcess (deny_if k NoCall (deny_if e Spent (Ok tt))))
         ≡ step_permit (record { state = s; nodes = nodes; versions = versions; tally = tally }) i
     step_by_lem tally l t p k e lawful words none idle late = rw (step_kind tally, lawful, words, none, idle, late)

@@ -1,14 +1,10 @@
 -- What C is told of an outcome: 0 or the refusal's number, and answer words, all 0 where the call is refused.
-use Rattle.std.specs.Prelude.{ℕ, ◌-◌, List, [], ◌∷◌, replicate}
+use Rattle.std.specs.Prelude.{ℕ, ◌-◌, List, [], ◌∷◌, replicate, Result, Ok, Err, Option, Some}
+use Rattle.model.specs.Types.{Opening, Starting, Stepping, Looking, Inspecting, Status}
 use Rattle.model.specs.declared.types.Finish.{Finish}
 use Rattle.model.specs.declared.types.Item.{Item}
+use Rattle.model.specs.declared.types.Progress.{Progress}
 use Rattle.model.specs.declared.types.Refusal.{Refusal}
-use Rattle.model.specs.declared.types.Opening.{Opening}
-use Rattle.model.specs.declared.types.Starting.{Starting}
-use Rattle.model.specs.declared.types.Stepping.{Stepping}
-use Rattle.model.specs.declared.types.Looking.{Looking}
-use Rattle.model.specs.declared.types.Inspecting.{Inspecting}
-use Rattle.model.specs.declared.types.Status.{Status}
 use Rattle.model.specs.Layout.{low_half, high_half}
 use Rattle.model.specs.Numbers.{number_of, answer_number, kind_number}
 
@@ -25,14 +21,19 @@ refused n r = reply (number_of r) (replicate n 0)
 abbrev pub accepted : List ℕ → Told
 accepted words = reply 0 words
 
+-- the number alone
+unfoldable pub number_told : {T : Type 0} → Result T Refusal → ℕ
+number_told (Err r) = number_of r
+number_told (Ok _) = 0
+
 unfoldable pub open_told : Opening → ℕ
-open_told (Opening.Refused r) = number_of r
-open_told Opening.Opened = 0
+open_told (Err r) = number_of r
+open_told (Ok _) = 0
 
 -- the tick
 unfoldable pub start_told : Starting → Told
-start_told (Starting.Refused r) = refused 1 r
-start_told (Starting.Started t) = accepted (t ∷ [])
+start_told (Err r) = refused 1 r
+start_told (Ok t) = accepted (t ∷ [])
 
 -- how many words the answer of each call has
 abbrev pub step_words : ℕ
@@ -78,25 +79,25 @@ finish_words f =
     finished ∷ f.finish ∷ kind_number f.kind ∷ answer_number f.answer ∷ f.value ∷ f.timestamp ∷ f.start ∷ f.effect ∷ []
 
 unfoldable pub step_told : Stepping → Told
-step_told (Stepping.Refused r) = refused step_words r
-step_told (Stepping.Moved t) = accepted (event_words moved t)
-step_told (Stepping.Waited t) = accepted (event_words waited t)
-step_told (Stepping.Shown t x) = accepted (shown_words t x)
-step_told (Stepping.Finished f) = accepted (finish_words f)
+step_told (Err r) = refused step_words r
+step_told (Ok (Progress.Moved t)) = accepted (event_words moved t)
+step_told (Ok (Progress.Waited t)) = accepted (event_words waited t)
+step_told (Ok (Progress.Shown t x)) = accepted (shown_words t x)
+step_told (Ok (Progress.Finished f)) = accepted (finish_words f)
 
 -- value and stamp
 unfoldable pub look_told : Looking → Told
-look_told (Looking.Refused r) = refused look_words r
-look_told (Looking.Shown v) = accepted (v.value ∷ v.timestamp ∷ [])
+look_told (Err r) = refused look_words r
+look_told (Ok v) = accepted (v.value ∷ v.timestamp ∷ [])
 
 -- sound, or a fault with "level and node reached"
 unfoldable pub inspect_told : Inspecting → Told
-inspect_told (Inspecting.Refused r) = refused inspect_words r
-inspect_told Inspecting.Sound = accepted (replicate inspect_words 0)
-inspect_told (Inspecting.Fault level node) = accepted (fault ∷ level ∷ node ∷ [])
+inspect_told (Err r) = refused inspect_words r
+inspect_told (Ok Option.None) = accepted (replicate inspect_words 0)
+inspect_told (Ok (Some f)) = accepted (fault ∷ f.level ∷ f.node ∷ [])
 
 -- "idle, or kind, start tick and effect tick"
 unfoldable pub status_told : Status → Told
-status_told (Status.Refused r) = refused status_words r
-status_told Status.Idle = accepted (replicate status_words 0)
-status_told (Status.Running kind start effect) = accepted (kind_number kind ∷ start ∷ effect ∷ [])
+status_told (Err r) = refused status_words r
+status_told (Ok Option.None) = accepted (replicate status_words 0)
+status_told (Ok (Some c)) = accepted (kind_number c.kind ∷ c.start ∷ c.effect ∷ [])

@@ -1,10 +1,15 @@
 // What C is told of an outcome: the number to return, and the answer words. A refusal sets every answer word to 0, so that
 // nothing of an earlier call is left there to be taken for an answer.
-ghost use Rattle.std.specs.Prelude.{◌≡◌, [], ◌∷◌};
-ghost use Rattle.replies.specs.Told.{reply, open_told, start_told, event_words, shown_words, finish_words, step_told, look_told, inspect_told, status_told};
+ghost use Rattle.std.specs.Prelude.{◌≡◌, [], ◌∷◌, Ok};
+ghost use Rattle.std.specs.Result.{result_unwrap_or};
+ghost use Rattle.replies.specs.Told.{reply, accepted, number_told, open_told, start_told, event_words, shown_words, finish_words, step_told, look_told, inspect_told, status_told};
 
-use model::types::{Finish, Inspecting, Item, Looking, Opening, Starting, Status, Stepping};
-use numbers::{answer_number, kind_number, number_of};
+use model::types::{
+    Fault, Finish, Inspecting, Item, Looking, Opening, Progress, Refusal, Running, Starting,
+    Status, Stepping, Version,
+};
+use numbers::number_of;
+use numbers::numbered::Numbered;
 use values::halves::{high_half, low_half};
 
 // How many words the answer of each call has.
@@ -16,7 +21,7 @@ pub const INSPECT_WORDS: usize = 3;
 
 pub const STATUS_WORDS: usize = 3;
 
-// What a step did, in its first word.
+// What a step did, in its first word: these numbers, the fault's and what each function here answers are the C interface.
 const MOVED: u32 = 0;
 
 const WAITED: u32 = 1;
@@ -28,32 +33,40 @@ const SHOWN: u32 = 3;
 // What an inspection found, in its first word; sound is 0.
 const FAULT: u32 = 1;
 
-// An opening has no answer beside its number.
-#[tactic(auto, unfolding(crate::specs::Told::open_told))]
-pub fn tell_open(outcome: Opening) -> u32
-    ensures { result ≡ open_told outcome }
+// 0 where the call is accepted, or the refusal's number.
+#[tactic(auto, unfolding(crate::specs::Told::number_told))]
+fn number_told<T: Copy>(outcome: Result<T, Refusal>) -> u32
+    ensures { result ≡ number_told outcome }
 {
     match outcome {
-        Opening::Refused(refusal) => number_of(refusal),
-        Opening::Opened => 0,
+        Ok(_) => 0,
+        Err(refusal) => number_of(refusal),
     }
 }
 
+// The answer of an accepted call is stored, or zeros; the number is returned.
+fn tell<A: Copy>(outcome: Result<A, Refusal>, zeros: A, answer: &mut A) -> u32
+    ensures number { result ≡ number_told outcome }
+    ensures answer { answer.new ≡ result_unwrap_or outcome zeros }
+{
+    *answer = outcome.unwrap_or(zeros);
+    number_told(outcome)
+}
+
+// An opening has no answer beside its number.
+#[tactic(auto, unfolding(crate::specs::Told::open_told, crate::specs::Told::number_told))]
+pub fn tell_open(outcome: Opening) -> u32
+    ensures { result ≡ open_told outcome }
+{
+    number_told(outcome)
+}
+
 // The tick, which is never 0 where the start was let pass.
-#[tactic(auto, unfolding(crate::specs::Told::start_told))]
+#[tactic(auto, unfolding(crate::specs::Told::start_told, crate::specs::Told::number_told))]
 pub fn tell_start(outcome: Starting, tick: &mut u32) -> u32
     ensures { reply result (tick.new ∷ []) ≡ start_told outcome }
 {
-    match outcome {
-        Starting::Refused(refusal) => {
-            *tick = 0;
-            number_of(refusal)
-        }
-        Starting::Started(t) => {
-            *tick = t;
-            0
-        }
-    }
+    tell(outcome, 0, tick)
 }
 
 // What a step tells that neither shows nor ends.
@@ -69,30 +82,19 @@ fn shown_words(tick: u32, item: Item) -> [u32; STEP_WORDS]
 {
     let low = low_half(item.key);
     let high = high_half(item.key);
-    let version = item.version;
-    [
-        SHOWN,
-        tick,
-        low,
-        high,
-        version.value,
-        version.timestamp,
-        0,
-        0,
-    ]
+    let Version { value, timestamp } = item.version;
+    [SHOWN, tick, low, high, value, timestamp, 0, 0]
 }
 
 // What a finishing step tells: the tick stands second in every step's answer, so the finish comes before the kind.
 fn finish_words(f: Finish) -> [u32; STEP_WORDS]
     ensures { result ≡ finish_words f }
 {
-    let kind = f.kind;
-    let answer = f.answer;
     [
         FINISHED,
         f.finish,
-        kind_number(kind),
-        answer_number(answer),
+        f.kind.number(),
+        f.answer.number(),
         f.value,
         f.timestamp,
         f.start,
@@ -100,90 +102,76 @@ fn finish_words(f: Finish) -> [u32; STEP_WORDS]
     ]
 }
 
-// Eight words for every outcome, those that it does not use 0, so that a caller may read them all without a test.
+// What a step tells that is not refused.
 #[tactic(auto, unfolding(crate::specs::Told::step_told))]
-pub fn tell_step(outcome: Stepping, answer: &mut [u32; STEP_WORDS]) -> u32
-    ensures { reply result answer.new ≡ step_told outcome }
+fn progress_words(progress: Progress) -> [u32; STEP_WORDS]
+    ensures { step_told (Ok progress) ≡ accepted result }
 {
-    match outcome {
-        Stepping::Refused(refusal) => {
-            *answer = [0; STEP_WORDS];
-            number_of(refusal)
-        }
-        Stepping::Moved(tick) => {
-            *answer = event_words(MOVED, tick);
-            0
-        }
-        Stepping::Waited(tick) => {
-            *answer = event_words(WAITED, tick);
-            0
-        }
-        Stepping::Shown(tick, item) => {
-            *answer = shown_words(tick, item);
-            0
-        }
-        Stepping::Finished(finish) => {
-            *answer = finish_words(finish);
-            0
-        }
+    match progress {
+        Progress::Moved(tick) => event_words(MOVED, tick),
+        Progress::Waited(tick) => event_words(WAITED, tick),
+        Progress::Shown(tick, item) => shown_words(tick, item),
+        Progress::Finished(finish) => finish_words(finish),
     }
 }
 
-// Value and timestamp: any two words may be a version, so that only the number tells a refusal from one of zeroes.
+// Eight words for every outcome, those that it does not use 0, so that a caller may read them all without a test.
+#[tactic(auto, unfolding(crate::specs::Told::step_told, crate::specs::Told::number_told))]
+pub fn tell_step(outcome: Stepping, answer: &mut [u32; STEP_WORDS]) -> u32
+    ensures { reply result answer.new ≡ step_told outcome }
+{
+    tell(outcome.map(progress_words), [0; STEP_WORDS], answer)
+}
+
 #[tactic(auto, unfolding(crate::specs::Told::look_told))]
+fn version_words(version: Version) -> [u32; LOOK_WORDS]
+    ensures { look_told (Ok version) ≡ accepted result }
+{
+    [version.value, version.timestamp]
+}
+
+// Value and timestamp: any two words may be a version, so that only the number tells a refusal from one of zeroes.
+#[tactic(auto, unfolding(crate::specs::Told::look_told, crate::specs::Told::number_told))]
 pub fn tell_look(outcome: Looking, answer: &mut [u32; LOOK_WORDS]) -> u32
     ensures { reply result answer.new ≡ look_told outcome }
 {
-    match outcome {
-        Looking::Refused(refusal) => {
-            *answer = [0; LOOK_WORDS];
-            number_of(refusal)
-        }
-        Looking::Shown(version) => {
-            *answer = [version.value, version.timestamp];
-            0
-        }
+    tell(outcome.map(version_words), [0; LOOK_WORDS], answer)
+}
+
+// What an inspection tells that is not refused.
+#[tactic(auto, unfolding(crate::specs::Told::inspect_told))]
+fn fault_words(found: Option<Fault>) -> [u32; INSPECT_WORDS]
+    ensures { inspect_told (Ok found) ≡ accepted result }
+{
+    match found {
+        None => [0; INSPECT_WORDS],
+        Some(fault) => [FAULT, fault.level, fault.node],
     }
 }
 
 // A fault is no refusal: the call did what was asked, and the number is 0.
-#[tactic(auto, unfolding(crate::specs::Told::inspect_told))]
+#[tactic(auto, unfolding(crate::specs::Told::inspect_told, crate::specs::Told::number_told))]
 pub fn tell_inspect(outcome: Inspecting, answer: &mut [u32; INSPECT_WORDS]) -> u32
     ensures { reply result answer.new ≡ inspect_told outcome }
 {
-    match outcome {
-        Inspecting::Refused(refusal) => {
-            *answer = [0; INSPECT_WORDS];
-            number_of(refusal)
-        }
-        Inspecting::Sound => {
-            *answer = [0; INSPECT_WORDS];
-            0
-        }
-        Inspecting::Fault(level, node) => {
-            *answer = [FAULT, level, node];
-            0
-        }
+    tell(outcome.map(fault_words), [0; INSPECT_WORDS], answer)
+}
+
+// What is told of a process. The kind's number tells whether there is a call: it is 0 for a process that has none, as its
+// two ticks are.
+#[tactic(auto, unfolding(crate::specs::Told::status_told))]
+fn running_words(call: Option<Running>) -> [u32; STATUS_WORDS]
+    ensures { status_told (Ok call) ≡ accepted result }
+{
+    match call {
+        None => [0; STATUS_WORDS],
+        Some(call) => [call.kind.number(), call.start, call.effect],
     }
 }
 
-// The kind's number tells whether there is a call: it is 0 for a process that has none, as its two ticks are.
-#[tactic(auto, unfolding(crate::specs::Told::status_told))]
+#[tactic(auto, unfolding(crate::specs::Told::status_told, crate::specs::Told::number_told))]
 pub fn tell_status(outcome: Status, answer: &mut [u32; STATUS_WORDS]) -> u32
     ensures { reply result answer.new ≡ status_told outcome }
 {
-    match outcome {
-        Status::Refused(refusal) => {
-            *answer = [0; STATUS_WORDS];
-            number_of(refusal)
-        }
-        Status::Idle => {
-            *answer = [0; STATUS_WORDS];
-            0
-        }
-        Status::Running(kind, start, effect) => {
-            *answer = [kind_number(kind), start, effect];
-            0
-        }
-    }
+    tell(outcome.map(running_words), [0; STATUS_WORDS], answer)
 }

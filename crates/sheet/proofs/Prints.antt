@@ -16,7 +16,8 @@ use Rattle.interpreter.specs.Rounds as Rounds
 use Rattle.interpreter.specs.Rounds.{Round, is_over, held_at, unread_at, ended_at, played_at, after, run_from, unplayed, Holds, due}
 use Rattle.interpreter.proofs.Progress.{all_advances}
 use Rattle.interpreter.proofs.Rounds.{in_rounds}
-use Rattle.sheet.specs.declared.types.Input.{Input}
+use Rattle.std.specs.Prelude.{Some, None, Ok, Err}
+use Rattle.sheet.specs.Runs.{Input}
 use Rattle.sheet.specs.Runs.{held_in, InBuffer, page_of, Memory, Answers, supplied_by, supplied_of, played_of}
 use Rattle.sheet.specs.Runs.{first_memory, supplied_at, round_of, rounds_from, PagesHold}
 use Rattle.sheet.specs.Prints.{printed_in, written_in, written_by, brought_by, ReadsOn, Honest, ProgramPrints}
@@ -52,7 +53,7 @@ module _ (m : Memory) (s : Rounds.Run) (f : Stands m s 0) where
 
   read_on : (i : Input) (behind : List ℕ) → ReadsOn i behind s.unread
       → Stands (supplied_by Needs.Bytes m i behind) s (brought_by Needs.Bytes i)
-  read_on (Input.Bytes n) behind h = record {
+  read_on (Ok (Some n)) behind h = record {
     held =
         (let e : size + n - 0 ≡ length bytes + n = omega (arith, long) in
         ap (λ (k : ℕ). take k (bytes ++ behind)) e
@@ -64,14 +65,14 @@ module _ (m : Memory) (s : Rounds.Run) (f : Stands m s 0) where
     inside = record { from = omega arith; end = omega (arith, long, h.0, length-append bytes behind) };
     on = λ o. refl;
   }
-  read_on Input.End behind h = record {
+  read_on (Ok None) behind h = record {
     held = take_at bytes behind (size - 0) (omega (arith, long)) ∙ f.held;
     ended = λ e. h;
     session = f.session;
     inside = record { from = omega arith; end = omega (arith, long, length-append bytes behind) };
     on = λ o. refl;
   }
-  read_on Input.Failed behind h = absurd h
+  read_on (Err e) behind h = absurd h
 
   supplied : (n : Needs) (i : Input) (behind : List ℕ) → (n ≡ Needs.Bytes → ReadsOn i behind s.unread)
       → Stands (supplied_by n m i behind) s (brought_by n i)

@@ -1,5 +1,5 @@
 -- Round by round: what the functions leave is what the definitions say, by what the system answered.
-use Prim.Native.Nat.{ℕ, ◌+◌, ◌-◌, ◌≤◌, ◌<◌}
+use Prim.Native.Nat.{ℕ, ◌+◌, ◌-◌, ◌≤◌}
 use mathlib.Core.Bool.{Bool, true, false, true≢false}
 use mathlib.Core.List.{List, [], ◌∷◌, ◌++◌}
 use mathlib.Core.Path.{◌≡◌, refl, sym, ap, subst, ◌∙◌}
@@ -7,18 +7,15 @@ use native.Mathlib.Omega.{arith}
 use lib.ListN.{length, length-append}
 use Rattle.interpreter.specs.declared.types.Needs.{Needs}
 use Rattle.interpreter.specs.Rounds.{is_over}
-use Rattle.sheet.specs.declared.types.Input.{Input}
+use Rattle.std.specs.Prelude.{None, Ok}
+use Rattle.sheet.specs.Runs.{Input}
 use Rattle.sheet.specs.declared.types.Run.{Run}
-use Rattle.sheet.specs.Runs.{Ready, first_run, took_of, settled, Memory, memory, Answers}
+use Rattle.sheet.specs.Runs.{first_run, took_of, settled, Memory, memory, Answers}
 use Rattle.sheet.specs.Runs.{supplied_by, supplied_of, played_of, round_of, rounds_from}
-use Rattle.sheet.specs.Runs.{PageHolds, PagesHold, Refilled, Supplies, Plays, most_rounds, Runs}
-use Rattle.sheet.proofs.Standing.{over, is_over_lem}
+use Rattle.sheet.specs.Runs.{PageHolds, PagesHold, Refilled, Supplies, Plays, Runs}
+use Rattle.sheet.proofs.Standing.{is_over_lem}
 
 -- ---- a write
-
-pub settled_ready : (written : Bool) (q r : Run) (size : ℕ) → q ≡ settled written r → Ready r size → Ready q size
-settled_ready true q r size e h = rw e h
-settled_ready false q r size e h = rw e (over _ size (record { from = h.inside.from; end = h.inside.end }) refl).0
 
 pub settled_plays : (m : Memory) (written : Bool) (q q' : Run) (bytes nodes versions tally out : List ℕ)
     → memory q bytes nodes versions tally out ≡ played_of m true → q' ≡ settled written q → q.next ≤ length m.out
@@ -46,34 +43,29 @@ supplies_bytes r q bytes bytes' e f = record {
       ∙ ap (λ (n : Needs). supplied_by n (memory r bytes nodes versions tally out) f.input f.behind) (sym e));
 }
 
-module _ (r : Run) (bytes : List ℕ) where
-  supplies_none : (n : Needs) → r.needs ≡ n → ((m : Memory) → supplied_by n m Input.End [] ≡ m) → Supplies r r bytes bytes
-  unfolding supplied_of
-  supplies_none n e h = record {
-    input = Input.End;
-    behind = [];
-    same = λ nodes versions tally out.
-        (let m = memory r bytes nodes versions tally out in
-        sym (h m) ∙ ap (λ (x : Needs). supplied_by x m Input.End []) (sym e));
-  }
+-- nothing is read
+supplied_none : (n : Needs) (m : Memory) → (n ≡ Needs.Bytes → ⊥) → supplied_by n m (Ok None) [] ≡ m
+supplied_none Needs.Bytes m h = absurd (h refl)
+supplied_none Needs.Nothing m h = refl
+supplied_none Needs.Page m h = refl
+supplied_none Needs.Over m h = refl
 
-  pub supplies_nothing : r.needs ≡ Needs.Nothing → Supplies r r bytes bytes
-  supplies_nothing e = supplies_none Needs.Nothing e (λ m. refl)
-
-  pub supplies_page : r.needs ≡ Needs.Page → Supplies r r bytes bytes
-  supplies_page e = supplies_none Needs.Page e (λ m. refl)
-
-  pub supplies_over : r.needs ≡ Needs.Over → Supplies r r bytes bytes
-  supplies_over e = supplies_none Needs.Over e (λ m. refl)
+pub supplies_none : (r : Run) (bytes : List ℕ) → (r.needs ≡ Needs.Bytes → ⊥) → Supplies r r bytes bytes
+unfolding supplied_of
+supplies_none r bytes h = record {
+  input = Ok None;
+  behind = [];
+  same = λ nodes versions tally out. sym (supplied_none r.needs (memory r bytes nodes versions tally out) h);
+}
 
 -- ---- rounds
 
--- so many rounds, of so many that can be made
-pub record Ran (m m' : Memory) (left all : ℕ) : Type 0 where
+-- so many rounds
+pub record Ran (m m' : Memory) (made : ℕ) : Type 0 where
   pub answers : List Answers
   pub same : m' ≡ rounds_from m answers
   pub holds : PagesHold m answers
-  pub count : length answers + left ≡ all
+  pub count : length answers ≡ made
 
 snoc : (m : Memory) (answers : List Answers) (a : Answers) → rounds_from m (answers ++ (a ∷ [])) ≡ round_of (rounds_from m answers) a
 unfolding rounds_from
@@ -86,13 +78,13 @@ unfolding rounds_from
 holds_snoc m [] a h l = (l, tt)
 holds_snoc m (b ∷ answers) a h l = (h.0, holds_snoc (round_of m b) answers a h.1 l)
 
-pub none_made : (r : Run) (bytes nodes versions tally out : List ℕ) (all : ℕ) → r ≡ first_run
-    → Ran (memory first_run bytes nodes versions tally out) (memory r bytes nodes versions tally out) all all
+pub none_made : (r : Run) (bytes nodes versions tally out : List ℕ) → r ≡ first_run
+    → Ran (memory first_run bytes nodes versions tally out) (memory r bytes nodes versions tally out) 0
 unfolding rounds_from
-none_made r bytes nodes versions tally out all e =
-    record { answers = []; same = ap (λ (x : Run). memory x bytes nodes versions tally out) e; holds = tt; count = omega arith }
+none_made r bytes nodes versions tally out e =
+    record { answers = []; same = ap (λ (x : Run). memory x bytes nodes versions tally out) e; holds = tt; count = refl }
 
-module _ (m₀ m : Memory) (left all : ℕ) (ran : Ran m₀ m left all) where
+module _ (m₀ m : Memory) (made : ℕ) (ran : Ran m₀ m made) where
   added : (m' : Memory) (a : Answers) → m' ≡ round_of m a → m' ≡ rounds_from m₀ (ran.answers ++ (a ∷ []))
   added m' a e = e ∙ ap (λ (x : Memory). round_of x a) ran.same ∙ sym (snoc m₀ ran.answers a)
 
@@ -109,16 +101,16 @@ module _ (m₀ m : Memory) (left all : ℕ) (ran : Ran m₀ m left all) where
     needs_so : (b : Bool) → is_over m'.run.needs ≡ b → is_over (supplied_of m input behind).run.needs ≡ b
     needs_so b o = ap (λ (x : Memory). is_over x.run.needs) (sym s) ∙ o
 
-    pub next_round : (m'' : Memory) → 0 < left → is_over m'.run.needs ≡ false → Plays m' m'' → Ran m₀ m'' (left - 1) all
+    pub next_round : (m'' : Memory) → is_over m'.run.needs ≡ false → Plays m' m'' → Ran m₀ m'' (made + 1)
     unfolding round_of
-    next_round m'' h on p =
+    next_round m'' on p =
         let w = p.written in
         let e : m'' ≡ round_of m (answers w) = simp (needs_so false on) (p.same ∙ ap (λ (x : Memory). played_of x w) s) in
         record {
           answers = ran.answers ++ (answers w ∷ []);
           same = added m'' (answers w) e;
           holds = held (answers w) (λ o. subst (λ (x : Memory). (played_of x true).run.next ≤ length x.out) s p.holds);
-          count = omega (arith, h, longer w, ran.count);
+          count = omega (arith, longer w, ran.count);
         }
 
     pub last_round : is_over m'.run.needs ≡ true → Runs m₀ m'
@@ -129,11 +121,3 @@ module _ (m₀ m : Memory) (left all : ℕ) (ran : Ran m₀ m left all) where
       holds = held (answers true) (λ off. absurd (true≢false (sym (needs_so true o) ∙ off)));
       over = λ n. absurd (n (is_over_lem m'.run.needs o));
     }
-
-pub all_made : (m₀ m : Memory) (left : ℕ) → left ≡ 0 → Ran m₀ m left most_rounds → Runs m₀ m
-all_made m₀ m left z ran = record {
-  answers = ran.answers;
-  same = ran.same;
-  holds = ran.holds;
-  over = λ n. omega (arith, z, ran.count);
-}

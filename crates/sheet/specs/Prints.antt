@@ -1,13 +1,12 @@
 -- What the program writes where its reads bring the sheet from its front on and its pages are taken: what the sheet prints.
-use Rattle.std.specs.Prelude.{ℕ, ◌≤◌, true, false, List, [], ◌∷◌, ◌++◌, ◌≡◌, length, take, drop}
+use Rattle.std.specs.Prelude.{ℕ, ◌≤◌, true, false, List, [], ◌∷◌, ◌++◌, ◌≡◌, length, take, drop, Some, None, Ok, Err}
 use Rattle.std.specs.Prelude.{if◌then◌else◌}
 use Rattle.printer.specs.Lines.{text}
 use Rattle.buffers.specs.Session.{session}
 use Rattle.interpreter.specs.declared.types.Needs.{Needs}
 use Rattle.interpreter.specs.Sheet.{first_session, sheet_of}
 use Rattle.interpreter.specs.Rounds.{is_over}
-use Rattle.sheet.specs.declared.types.Input.{Input}
-use Rattle.sheet.specs.Runs.{Memory, first_memory, Answers, supplied_at, played_of, round_of, rounds_from, PagesHold}
+use Rattle.sheet.specs.Runs.{Input, Memory, first_memory, Answers, supplied_at, played_of, round_of, rounds_from, PagesHold}
 
 -- ---- what is written
 
@@ -30,9 +29,9 @@ written_by m (a ∷ answers) = written_in m a ++ written_by (round_of m a) answe
 
 -- how many bytes an answer brings, where they are needed
 abbrev pub count_in : Input → ℕ
-count_in (Input.Bytes n) = n
-count_in Input.End = 0
-count_in Input.Failed = 0
+count_in (Ok (Some n)) = n
+count_in (Ok None) = 0
+count_in (Err e) = 0
 
 abbrev pub brought_by : Needs → Input → ℕ
 brought_by Needs.Bytes i = count_in i
@@ -42,9 +41,9 @@ brought_by Needs.Over i = 0
 
 -- a read brings the next bytes that are unread, or the end where there are none; it does not fail
 abbrev pub ReadsOn : Input → (behind unread : List ℕ) → Type 0
-ReadsOn (Input.Bytes n) behind unread = (n ≤ length behind) × (take n behind ≡ take n unread)
-ReadsOn Input.End behind unread = unread ≡ []
-ReadsOn Input.Failed behind unread = ⊥
+ReadsOn (Ok (Some n)) behind unread = (n ≤ length behind) × (take n behind ≡ take n unread)
+ReadsOn (Ok None) behind unread = unread ≡ []
+ReadsOn (Err e) behind unread = ⊥
 
 -- so in every round, where these bytes are unread; and every page is written
 abbrev pub Honest : Memory → (unread : List ℕ) → List Answers → Type 0

@@ -1,5 +1,5 @@
 -- The program's run: its bytes lie in a buffer, of which a round plays those that are held.
-use Rattle.std.specs.Prelude.{ℕ, ◌+◌, ◌-◌, ◌≤◌, ◌<◌, min, Bool, true, false, List, [], ◌∷◌, ◌++◌, ◌≢◌, ◌≡◌, eqb, ℤ, pos, negsuc, length, take, drop}
+use Rattle.std.specs.Prelude.{ℕ, ◌+◌, ◌-◌, ◌≤◌, ◌<◌, Bool, true, false, List, [], ◌∷◌, ◌++◌, ◌≢◌, ◌≡◌, eqb, length, take, drop, Option, Some, None, Result, Ok, Err}
 use Rattle.model.specs.declared.types.State.{State}
 use Rattle.std.specs.Prelude.{if◌then◌else◌}
 use Rattle.printer.specs.Lines.{room}
@@ -8,7 +8,7 @@ use Rattle.interpreter.specs.declared.types.Needs.{Needs}
 use Rattle.interpreter.specs.Sheet.{first_session}
 use Rattle.interpreter.specs.Playing.{Playing, on_page, play_of}
 use Rattle.interpreter.specs.Rounds.{is_over}
-use Rattle.sheet.specs.declared.types.Input.{Input}
+use Rattle.sheet.specs.declared.types.Failed.{Failed}
 use Rattle.sheet.specs.declared.types.Run.{Run}
 
 -- ---- a read
@@ -35,22 +35,25 @@ Supplied r = r.needs ≢ Needs.Bytes
 abbrev pub first_run : Run
 first_run = record { state = first_session.state; from = 0; end = 0; ended = false; next = 0; needs = Needs.Bytes }
 
--- what a read's answer means that had room for so many bytes: "0 at the end of the input", and -1 where it failed
-abbrev pub input_of : (got : ℤ) → (room : ℕ) → Input
-input_of (pos n) room = if eqb (min n room) 0 then Input.End else Input.Bytes (min n room)
-input_of (negsuc n) room = Input.Failed
+-- so many bytes, or none at the end of the input; or the read failed
+abbrev pub Input : Type 0
+Input = Result (Option ℕ) Failed
+
+-- what the number of bytes means that a read answers: "0 at the end of the input"
+abbrev pub input_of : (count : ℕ) → Option ℕ
+input_of count = if eqb count 0 then None else Some count
 
 -- no more bytes than there is room for
 abbrev pub InRoom : ℕ → Input → Type 0
-InRoom room (Input.Bytes n) = n ≤ room
-InRoom room Input.End = Unit {0}
-InRoom room Input.Failed = Unit {0}
+InRoom most (Ok (Some n)) = n ≤ most
+InRoom most (Ok None) = Unit {0}
+InRoom most (Err e) = Unit {0}
 
 -- the run with what was read behind the bytes held, which stand at the front; a read that fails ends it
 abbrev pub took_of : State → (held : ℕ) → Input → Run
-took_of s held (Input.Bytes n) = record { state = s; from = 0; end = held + n; ended = false; next = 0; needs = Needs.Nothing }
-took_of s held Input.End = record { state = s; from = 0; end = held; ended = true; next = 0; needs = Needs.Nothing }
-took_of s held Input.Failed = record { state = s; from = 0; end = held; ended = false; next = 0; needs = Needs.Over }
+took_of s held (Ok (Some n)) = record { state = s; from = 0; end = held + n; ended = false; next = 0; needs = Needs.Nothing }
+took_of s held (Ok None) = record { state = s; from = 0; end = held; ended = true; next = 0; needs = Needs.Nothing }
+took_of s held (Err e) = record { state = s; from = 0; end = held; ended = false; next = 0; needs = Needs.Over }
 
 -- ---- a page
 

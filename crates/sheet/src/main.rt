@@ -12,6 +12,7 @@ use buffers::types::Buffers;
 // How many bytes are read at once at most, and how many a page has.
 const PIECE: usize = 65_536;
 
+// Fixed memory: no table, no piece and no page comes from a heap.
 fn main(rt: HostRuntime) {
     let mut nodes = [0u32; Buffers::NODES];
     let mut versions = [0u32; Buffers::VERSIONS];

@@ -1,8 +1,7 @@
 // Rounds: more bytes where they are needed, a page of lines of what is held, and the page is written.
 ghost use Rattle.std.specs.Prelude.{◌≤◌, true, ◌≡◌, length};
 ghost use Rattle.decoder.specs.Commands.{longest_command};
-ghost use Rattle.interpreter.specs.Rounds.{is_over};
-ghost use Rattle.sheet.specs.Runs.{InBuffer, Ready, Supplied, first_run, settled, memory, first_memory, played_of};
+ghost use Rattle.sheet.specs.Runs.{InBuffer, Ready, Supplied, first_run, memory, first_memory, played_of};
 ghost use Rattle.sheet.specs.Runs.{Supplies, Plays, Runs, Lends};
 
 use crate::input::refill;
@@ -23,88 +22,45 @@ fn play_page(
 ) -> Run
     requires in_buffer { InBuffer r (length bytes.now) }
     requires longest_command_in_bounds { longest_command ≤ length bytes.now }
-    ensures out_after { memory result bytes.now nodes.new versions.new tally.new out.new
+    ensures plays { memory result bytes.now nodes.new versions.new tally.new out.new
         ≡ played_of
         (memory r bytes.now nodes.old versions.old tally.old out.old) true }
     ensures ready { Ready result (length bytes.now) }
     ensures next_in_bounds { result.next ≤ length out.old }
 {
-    let state = r.state;
+    // Each field is said, as in `first`.
     let start = Played {
-        state,
+        state: r.state,
         read: 0,
         next: 0,
         needs: Needs::Nothing,
     };
-    let from = r.from;
-    let end = r.end;
-    let p = play(
-        start,
-        &bytes[from..end],
-        r.ended,
-        nodes,
-        versions,
-        tally,
-        out,
-    );
-    let after = p.state;
-    let needs = p.needs;
+    let held = &bytes[r.from..r.end];
+    let p = play(start, held, r.ended, nodes, versions, tally, out);
     Run {
-        state: after,
-        from: from + p.read,
-        end,
-        ended: r.ended,
+        state: p.state,
+        from: r.from + p.read,
         next: p.next,
-        needs,
+        needs: p.needs,
+        ..r
     }
 }
 
-// A write that fails ends the run.
-fn settle(written: bool, r: Run) -> Run
-    ensures { result ≡ settled written r }
-{
-    if written {
-        return r;
-    }
-    let state = r.state;
-    Run {
-        state,
-        from: r.from,
-        end: r.end,
-        ended: r.ended,
-        next: r.next,
-        needs: Needs::Over,
-    }
-}
-
-// More bytes, where they are needed.
+// More bytes, where they are needed. That none are then (`Supplied`) is a clause: it holds of half a round, and a type of its own would be
+// made here and taken apart in `print_page`.
 fn supply(rt: &HostRuntime, r: Run, bytes: &mut [u8]) -> Run
     requires { Ready r (length bytes.old) }
     ensures ready { Ready result (length bytes.old) }
     ensures supplied { Supplied result }
     ensures supplies { Supplies r result bytes.old bytes.new }
 {
-    let needs = r.needs;
-    match needs {
-        Needs::Bytes => refill(rt, r, bytes),
-        Needs::Nothing => r,
-        Needs::Page => r,
-        Needs::Over => r,
+    if r.needs == Needs::Bytes {
+        return refill(rt, r, bytes);
     }
+    r
 }
 
-fn is_over(needs: Needs) -> bool
-    ensures { result ≡ is_over needs }
-{
-    match needs {
-        Needs::Nothing => false,
-        Needs::Page => false,
-        Needs::Bytes => false,
-        Needs::Over => true,
-    }
-}
-
-// A page of what can be played, and its lines written.
+// A page of what can be played, and its lines written. A write that fails ends the run.
 fn print_page(
     rt: &HostRuntime,
     r: Run,
@@ -123,12 +79,16 @@ fn print_page(
         (memory result bytes.now nodes.new versions.new tally.new out.new) }
 {
     let q = play_page(r, bytes, nodes, versions, tally, out);
-    let next = q.next;
-    let written = write(rt, &out[..next]);
-    settle(written, q)
+    if write(rt, &out[..q.next]).is_err() {
+        return Run {
+            needs: Needs::Over,
+            ..q
+        };
+    }
+    q
 }
 
-// Nothing is read yet.
+// Nothing is read yet. Each field is said: a Default would not show that the state is closed.
 fn first() -> Run
     ensures { result ≡ first_run }
 {
@@ -142,7 +102,9 @@ fn first() -> Run
     }
 }
 
-// Round after round, until the run is over. It counts its rounds down from a number that no run uses up.
+// Round after round, until the run is over. The buffers may be of any lengths that have room (`longest_command`, `Lends`): an array's type
+// would ask for one. A proved loop has to end, so it counts its rounds up to a number that no
+// run reaches.
 pub fn run(
     rt: &HostRuntime,
     bytes: &mut [u8],
@@ -158,15 +120,12 @@ pub fn run(
         (memory result bytes.new nodes.new versions.new tally.new out.new) }
 {
     let mut at = first();
-    let mut rounds = u64::MAX;
-    while 0 < rounds {
+    for _ in 0..u64::MAX {
         at = supply(rt, at, bytes);
-        let needs = at.needs;
-        if is_over(needs) {
+        if at.needs == Needs::Over {
             return at;
         }
         at = print_page(rt, at, bytes, nodes, versions, tally, out);
-        rounds -= 1;
     }
     at
 }

@@ -1,8 +1,8 @@
 // Calls that move bytes: tried again where that helps, and else told on standard error.
-ghost use Rattle.std.specs.Prelude.{◌≤◌, ◌≡◌, length};
+ghost use Rattle.std.specs.Prelude.{◌<◌, ◌≡◌, length, IfOk};
 ghost use Rattle.sheet.specs.Runs.{input_of, InRoom};
 
-use crate::types::Input;
+use crate::types::{Failed, Input};
 use std::io::{self, ErrorKind, Read, Write};
 use std::thread::yield_now;
 
@@ -32,19 +32,11 @@ fn tell(rt: &HostRuntime, what: &str, error: &io::Error) {
     };
 }
 
-// What a read into `buf` brought that answered `got`.
-fn input(got: isize, buf: &[u8]) -> Input
-    ensures value { result ≡ input_of got (length buf.now) }
-    ensures in_room { InRoom (length buf.now) result }
+// What a read brought that answered `count`.
+fn input(count: usize) -> Option<usize>
+    ensures { result ≡ input_of count }
 {
-    if got < 0 {
-        return Input::Failed;
-    }
-    let count = (got as usize).min(buf.len());
-    if count == 0 {
-        return Input::End;
-    }
-    Input::Bytes(count)
+    if count == 0 { None } else { Some(count) }
 }
 
 // Reads what there is, at most as much as `buf` has room for. A proved loop has to end, so it counts its tries up to a
@@ -54,51 +46,47 @@ pub fn read(rt: &HostRuntime, buf: &mut [u8]) -> Input
 {
     for _ in 0..u64::MAX {
         match rt.stdin().read(buf) {
-            Ok(count) => return input(count as isize, buf),
+            Ok(count) => return Ok(input(count)),
             Err(error) => {
                 if !again(&error) {
                     tell(rt, "standard input", &error);
-                    return input(-1, buf);
+                    return Err(Failed);
                 }
             }
         }
     }
-    Input::Failed
+    Err(Failed)
 }
 
-// One write from `done` on, tried again as a read is, and where it took no byte. The answer is where the bytes end that are
-// written then: `done` itself where it failed.
-fn write_from(rt: &HostRuntime, out: &[u8], done: usize) -> usize
-    requires { done ≤ length out.now }
-    ensures { result ≤ length out.now }
+// One write of what `out` begins with, tried again as a read is, and where it took no byte. The answer is what is left of `out`. No loop for both:
+// a read ends with any count, and a write of none goes round again.
+fn write_some<'a>(rt: &HostRuntime, out: &'a [u8]) -> Result<&'a [u8], Failed>
+    requires { 0 < length out.now }
+    ensures { IfOk result (λ rest. length rest.now < length out.now) }
 {
     for _ in 0..u64::MAX {
-        match rt.stdout().write(&out[done..]) {
-            Ok(put) => {
-                if 0 < put {
-                    return done + put;
+        match rt.stdout().write(out) {
+            Ok(count) => {
+                if 0 < count {
+                    return Ok(&out[count..]);
                 }
             }
             Err(error) => {
                 if !again(&error) {
                     tell(rt, "standard output", &error);
-                    return done;
+                    return Err(Failed);
                 }
             }
         }
     }
-    done
+    Err(Failed)
 }
 
-// Writes all of `out`; false where it could not.
-pub fn write(rt: &HostRuntime, out: &[u8]) -> bool {
-    let mut done = 0;
-    while done < out.len() {
-        let end = write_from(rt, out, done);
-        if end <= done {
-            return false;
-        }
-        done = end;
+// Writes all of `out`. No `write_all`: that fails where a write takes no byte or where the descriptor has no room yet.
+pub fn write(rt: &HostRuntime, out: &[u8]) -> Result<(), Failed> {
+    let mut rest = out;
+    while !rest.is_empty() {
+        rest = write_some(rt, rest)?;
     }
-    true
+    Ok(())
 }

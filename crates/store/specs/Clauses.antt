@@ -1,8 +1,7 @@
 -- How the contracts name what a call is asked for and all that it leaves.
+use Rattle.model.specs.Types.{OpenResult, StartResult}
 use Rattle.std.specs.Prelude.{ℕ, ◌+◌, List}
 use Rattle.model.specs.declared.types.Call.{Call}
-use Rattle.model.specs.declared.types.OpenResult.{OpenResult}
-use Rattle.model.specs.declared.types.StartResult.{StartResult}
 use Rattle.model.specs.declared.types.State.{State}
 use Rattle.model.specs.Calls.{Opened, start_permit, start_by}
 

@@ -7,7 +7,7 @@ ghost use Rattle.store.specs.Clauses.{timed, start_with};
 use calls::begin::{begin, top_of};
 use calls::slot::slot;
 use layout::head::header_of;
-use model::types::{Call, Key, Kind, Permit, StartResult, Starting, State};
+use model::types::{Answered, Call, Key, Kind, StartResult, State};
 use refusals::permit::start_permit;
 
 // What all starts share. `asked` is the call but for its tick, which a start has only where it is let pass.
@@ -15,31 +15,32 @@ fn start(mut s: State, nodes: &[u32], versions: &[u32], process: u32, asked: Cal
     ensures { result ≡ start_with s nodes.now versions.now process (timed asked) }
 {
     let i = slot(process);
-    let p = s.process[i];
-    let running = p.call;
-    let kind = running.kind;
+    let running = s.process[i].call.kind;
     let h = header_of(s);
-    let permit = start_permit(&h, kind, nodes, versions, process, asked.key, asked.last);
-    match permit {
-        Permit::Denied(refusal) => StartResult {
-            outcome: Starting::Refused(refusal),
+    match start_permit(&h, running, nodes, versions, process, asked.key, asked.last) {
+        Err(refusal) => Answered {
+            outcome: Err(refusal),
             state: s,
         },
-        Permit::Granted => {
+        Ok(()) => {
             let tick = s.events + 1;
-            let mut call = asked;
-            call.start = tick;
-            s.process[i] = begin(call);
+            s.process[i] = begin(Call {
+                start: tick,
+                ..asked
+            });
             s.events = tick;
-            StartResult {
-                outcome: Starting::Started(tick),
+            Answered {
+                outcome: Ok(tick),
                 state: s,
             }
         }
     }
 }
 
+// The three starts, here as in lentstart, are document 01's calls, each with its own operands.
+
 // A start reads the tables only for their lengths, and takes the top level from the draw at once, so that no draw is kept.
+#[tactic(auto, unfolding(model::specs::Calls::start_of, model::specs::Calls::call_for))]
 pub fn start_put(
     s: State,
     nodes: &[u32],
@@ -52,20 +53,20 @@ pub fn start_put(
 ) -> StartResult
     ensures { result ≡ start_of s nodes.now versions.now process (put key value timestamp draw) }
 {
-    let top = top_of(draw);
     let asked = Call {
         kind: Kind::Put,
         key,
         last: key,
         value,
         timestamp,
-        top,
-        start: 0,
+        top: top_of(draw),
+        ..Call::default()
     };
     start(s, nodes, versions, process, asked)
 }
 
 // A get keeps the record of a put, with what it does not use at 0.
+#[tactic(auto, unfolding(model::specs::Calls::start_of, model::specs::Calls::call_for))]
 pub fn start_get(s: State, nodes: &[u32], versions: &[u32], process: u32, key: Key) -> StartResult
     ensures { result ≡ start_of s nodes.now versions.now process (get key) }
 {
@@ -73,15 +74,13 @@ pub fn start_get(s: State, nodes: &[u32], versions: &[u32], process: u32, key: K
         kind: Kind::Get,
         key,
         last: key,
-        value: 0,
-        timestamp: 0,
-        top: 0,
-        start: 0,
+        ..Call::default()
     };
     start(s, nodes, versions, process, asked)
 }
 
 // A scan of the keys from the first to the last.
+#[tactic(auto, unfolding(model::specs::Calls::start_of, model::specs::Calls::call_for))]
 pub fn start_scan(
     s: State,
     nodes: &[u32],
@@ -96,10 +95,7 @@ pub fn start_scan(
         kind: Kind::Scan,
         key: first,
         last,
-        value: 0,
-        timestamp: 0,
-        top: 0,
-        start: 0,
+        ..Call::default()
     };
     start(s, nodes, versions, process, asked)
 }

@@ -1,11 +1,9 @@
 -- A step that is denied or let pass, beside the state, and all that a step leaves.
-use Rattle.std.specs.Prelude.{ℕ, ◌+◌, ◌<◌, true, List, ◌≡◌, length}
+use Rattle.model.specs.Types.{Permit, StepResult, Ok, Err}
+use Rattle.std.specs.Prelude.{ℕ, ◌+◌, ◌<◌, true, false, List, ◌≡◌, length, Result}
+use Rattle.model.specs.declared.types.Refusal.{Refusal}
 use Rattle.model.specs.declared.types.Counts.{Counts}
-use Rattle.model.specs.declared.types.Permit.{Permit}
-use Rattle.model.specs.declared.types.Permit.TheVariants.{Denied, Granted}
 use Rattle.model.specs.declared.types.Process.{Process}
-use Rattle.model.specs.declared.types.StepResult.{StepResult}
-use Rattle.model.specs.declared.types.Stepping.{Stepping}
 use Rattle.model.specs.Layout.{Memory, limits}
 use Rattle.model.specs.Calls.{Stepped, store_of}
 use Rattle.tables.specs.Room.{Lent, memory}
@@ -14,14 +12,14 @@ use Rattle.calls.specs.Advance.{Advance, advance_of}
 
 -- a step that is denied leaves its process and the memory
 unfoldable pub attempt_of : Permit → (process events : ℕ) → Process → Memory → (tally : List ℕ) → Advance
-attempt_of (Denied r) i events p m tally = record {
+attempt_of (Err r) i events p m tally = record {
   refused = true;
-  outcome = Stepping.Refused r;
+  outcome = Err r;
   process = p;
   memory = m;
   tally = tally;
 }
-attempt_of Granted i events p m tally = advance_of (i + 1) (events + 1) p m tally
+attempt_of (Ok _) i events p m tally = advance_of (i + 1) (events + 1) p m tally
 
 -- what a step that is let pass can count on
 pub record Passed (nodes versions : List ℕ) (counts : Counts) (tally : List ℕ) (process events : ℕ) : Type 0 where
@@ -30,10 +28,18 @@ pub record Passed (nodes versions : List ℕ) (counts : Counts) (tally : List �
   pub few : process < limits.processes
   pub left : events < limits.events
 
-abbrev pub advanced : Advanced → (nodes versions tally : List ℕ) → Advance
-advanced a nodes versions tally = record {
-  refused = a.refused;
-  outcome = a.outcome;
+-- what a step leaves of this process and these counts: where it is refused, both as they were
+abbrev pub advanced : Process → Counts → Result Advanced Refusal → (nodes versions tally : List ℕ) → Advance
+advanced p counts (Err r) nodes versions tally = record {
+  refused = true;
+  outcome = Err r;
+  process = p;
+  memory = memory nodes versions counts;
+  tally = tally;
+}
+advanced p counts (Ok a) nodes versions tally = record {
+  refused = false;
+  outcome = Ok a.progress;
   process = a.process;
   memory = memory nodes versions a.counts;
   tally = tally;

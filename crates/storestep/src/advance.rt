@@ -7,12 +7,12 @@ ghost use Rattle.storestep.specs.Attempt.{advanced};
 
 use crate::types::Advanced;
 use calls::after::{count_end, outcome_of, process_after};
-use model::types::{Counts, Process, Refusal, Stepping};
-use phases::moves::is_refusal;
+use model::types::{Counts, Process, Refusal};
 use process::words::words_of;
 use transition::step::transition;
+use versiontable::memory::Memory;
 
-// The process after its step, for the caller to put back: where the step is refused, as it was. `holder` is the process's
+// The process after its step, for the caller to put back; in lent words `advance_in` writes what changes in place. `holder` is the process's
 // number plus 1, `tick` that of this event.
 pub fn advance(
     p: Process,
@@ -22,32 +22,24 @@ pub fn advance(
     nodes: &mut [u32],
     versions: &mut [u32],
     tally: &mut [u32],
-) -> Advanced
+) -> Result<Advanced, Refusal>
     requires lent { Lent nodes.old versions.old counts }
     requires tally_len { length tally.old ≡ limits.tally }
-    ensures { advanced result nodes.new versions.new tally.new
+    ensures { advanced p counts result nodes.new versions.new tally.new
         ≡ advance_of holder tick p (memory nodes.old versions.old counts) tally.old }
 {
-    let w = words_of(p);
-    let t = transition(&w, counts, holder, tick, nodes, versions);
-    let call = p.call;
-    let mv = t.mv;
-    let left = t.counts;
-    if is_refusal(mv) {
-        return Advanced {
-            refused: true,
-            outcome: Stepping::Refused(Refusal::Damaged),
-            process: p,
-            counts: left,
-        };
-    }
+    let mut memory = Memory {
+        nodes,
+        versions,
+        counts,
+    };
+    let mv = transition(&words_of(p), holder, tick, &mut memory);
+    let counts = memory.counts;
+    let progress = outcome_of(tick, p.call, mv)?;
     count_end(tally, mv);
-    let outcome = outcome_of(tick, call, mv);
-    let process = process_after(tick, p, mv);
-    Advanced {
-        refused: false,
-        outcome,
-        process,
-        counts: left,
-    }
+    Ok(Advanced {
+        progress,
+        process: process_after(tick, p, mv),
+        counts,
+    })
 }

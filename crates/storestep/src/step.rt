@@ -1,7 +1,6 @@
 // One step of a process.
 ghost use Rattle.std.specs.Prelude.{◌≡◌};
 ghost use Rattle.model.specs.Calls.{step_of, store_of};
-ghost use Rattle.model.specs.declared.types.Permit.TheVariants.{Granted};
 ghost use Rattle.tables.specs.Room.{memory};
 ghost use Rattle.storestep.specs.Attempt.{Passed, attempt_of, advanced};
 ghost use Rattle.storestep.specs.Attempt.{stepped};
@@ -10,10 +9,11 @@ use crate::advance::advance;
 use crate::types::Advanced;
 use calls::slot::slot;
 use layout::head::header_of;
-use model::types::{Counts, Permit, Process, State, StepResult, Stepping};
+use model::types::{Answered, Counts, Permit, Process, Refusal, State, StepResult};
 use refusals::permit::step_permit;
 
-// The step if it is let pass. `events` are those before it.
+// The step if it is let pass. `events` are those before it. No `Memory` before the permit: that its tables fit holds only
+// where the step is let pass.
 #[tactic(auto, unfolding(crate::specs::Attempt::attempt_of))]
 fn attempt(
     permit: Permit,
@@ -24,20 +24,13 @@ fn attempt(
     nodes: &mut [u32],
     versions: &mut [u32],
     tally: &mut [u32],
-) -> Advanced
-    requires { permit ≡ Granted → Passed nodes.old versions.old counts tally.old process events }
-    ensures { advanced result nodes.new versions.new tally.new
+) -> Result<Advanced, Refusal>
+    requires { permit ≡ Ok tt → Passed nodes.old versions.old counts tally.old process events }
+    ensures { advanced p counts result nodes.new versions.new tally.new
         ≡ attempt_of permit process events p (memory nodes.old versions.old counts) tally.old }
 {
-    match permit {
-        Permit::Denied(refusal) => Advanced {
-            refused: true,
-            outcome: Stepping::Refused(refusal),
-            process: p,
-            counts,
-        },
-        Permit::Granted => advance(p, counts, process + 1, events + 1, nodes, versions, tally),
-    }
+    permit?;
+    advance(p, counts, process + 1, events + 1, nodes, versions, tally)
 }
 
 // The state is put into the result at one place, so that it is copied twice: in and out.
@@ -53,20 +46,18 @@ pub fn step(
 {
     let i = slot(process);
     let p = s.process[i];
-    let call = p.call;
-    let kind = call.kind;
     let h = header_of(s);
-    let permit = step_permit(&h, kind, nodes, versions, tally, process);
-    let before = s.counts;
-    let events = s.events;
-    let a = attempt(permit, p, before, process, events, nodes, versions, tally);
-    let outcome = a.outcome;
-    if !a.refused {
-        let after = a.process;
-        let counts = a.counts;
-        s.process[i] = after;
-        s.counts = counts;
-        s.events = events + 1;
-    }
-    StepResult { outcome, state: s }
+    let permit = step_permit(&h, p.call.kind, nodes, versions, tally, process);
+    let outcome = match attempt(
+        permit, p, s.counts, process, s.events, nodes, versions, tally,
+    ) {
+        Err(refusal) => Err(refusal),
+        Ok(a) => {
+            s.process[i] = a.process;
+            s.counts = a.counts;
+            s.events += 1;
+            Ok(a.progress)
+        }
+    };
+    Answered { outcome, state: s }
 }

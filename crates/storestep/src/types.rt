@@ -1,10 +1,9 @@
-use model::types::{Counts, Process, Stepping};
+use model::types::{Counts, Process, Progress};
 
-// What a step leaves of one process, beside the tables and the tally.
+// What a step that is let pass did, and what it leaves of its process, beside the tables and the tally.
 #[derive(Clone, Copy)]
 pub struct Advanced {
-    pub refused: bool,
-    pub outcome: Stepping,
+    pub progress: Progress,
     pub process: Process,
     pub counts: Counts,
 }

@@ -1,4 +1,5 @@
-// The tally in seven lent words: what every caller uses.
+// The tally in seven lent words: what every caller uses. The struct that document 01 asks for cannot be laid over them, and a slice
+// may have another length, so the conversions are functions and no From.
 ghost use Rattle.std.specs.Prelude.{◌≡◌, length};
 ghost use Rattle.model.specs.Layout.{limits};
 ghost use Rattle.model.specs.Calls.{counted};

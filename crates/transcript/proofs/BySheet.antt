@@ -20,7 +20,7 @@ use Rattle.buffers.specs.Session.{Session, Done, lent, back, table_words, buffer
 use Rattle.executor.specs.Perform.{perform_of}
 use Rattle.interpreter.specs.Sheet.{first_session}
 use Rattle.buffers.proofs.Laws.{asked_permit}
-use Rattle.transcript.specs.Types.{Command, Open, Put, Get, Step, Look, Inspect, Call, Lengths, State, Permit, Granted, Denied, StartResult, Inspecting}
+use Rattle.transcript.specs.Types.{Command, Open, Put, Get, Step, Look, Inspect, Call, Lengths, State, Permit, Ok, Err, StartResult, Inspecting}
 use Rattle.transcript.specs.Meanings.{start_meant, look_meant, inspect_meant}
 use Rattle.transcript.specs.BySheet.{BufferLengths, Asked, fitting_for, opens_by_line, answered, by_sheet}
 use Rattle.transcript.proofs.Steps.{Keeps, step_keeps}
@@ -55,8 +55,8 @@ module _ (n n' : ℕ) (table buffer : List ℕ) (same : n' ≡ n) (long : length
 state_by : (d : Permit) (s : State) (i : ℕ) (call : Call)
     → let o = start_by d s i call in (o.state.lengths ≡ s.lengths) × (o.state.opened ≡ s.opened)
 unfolding start_by
-state_by (Denied r) s i call = (refl, refl)
-state_by Granted s i call = (refl, refl)
+state_by (Err r) s i call = (refl, refl)
+state_by (Ok _) s i call = (refl, refl)
 
 module _ (w : Session) (s : Stands w) (i : ℕ) where
   start_called : (r : StartResult) → (r.state.lengths ≡ w.state.lengths) × (r.state.opened ≡ w.state.opened)
@@ -202,7 +202,7 @@ module _ (w : Session) (l : BufferLengths w) (k v p limit : ℕ) where
   m' = length (take m w.versions)
 
   -- the buffers are longer than any table that is accepted
-  room : open_due (fitting_for k v p limit) ≡ Granted → (n ≤ length w.nodes) × (m ≤ length w.versions)
+  room : open_due (fitting_for k v p limit) ≡ (Ok tt) → (n ≤ length w.nodes) × (m ≤ length w.versions)
   room e =
       let f = granted_fits (fitting_for k v p limit) e in
       (omega (arith, l.nodes, f.nodes.1, f.nodes.3), omega (arith, l.versions, f.versions.1, f.versions.3))
@@ -210,12 +210,12 @@ module _ (w : Session) (l : BufferLengths w) (k v p limit : ℕ) where
   abbrev opens_in : Permit → Opens Session
   opens_in d = opens_by_line (opened_on w k v p limit (open_by d (take n w.nodes) (take m w.versions) p limit))
 
-  open_by_lem : (d : Permit) → (d ≡ Granted → open_due (fitting_for k v p limit) ≡ Granted)
+  open_by_lem : (d : Permit) → (d ≡ (Ok tt) → open_due (fitting_for k v p limit) ≡ (Ok tt))
       → let o = open_by d (replicate n 0) (replicate m 0) p limit in
       SameOpening Holds (opens_in d) (opens_by o.result.outcome (fresh_store o))
   unfolding open_by
-  open_by_lem (Denied r) e = refl
-  open_by_lem Granted e =
+  open_by_lem (Err r) e = refl
+  open_by_lem (Ok _) e =
       let h = room (e refl) in
       let a = length-take-le n w.nodes h.0 in
       let b = length-take-le m w.versions h.1 in (
@@ -260,7 +260,7 @@ first_lengths = record {
 }
 
 -- a sheet can ask for every lawful opening
-asks : (f : Fitting) → open_due f ≡ Granted → (s : Asked) × (by_sheet.fitting s ≡ f)
+asks : (f : Fitting) → open_due f ≡ (Ok tt) → (s : Asked) × (by_sheet.fitting s ≡ f)
 asks f lawful =
     let h = granted_fits f lawful in
     let K = h.nodes.0 in

@@ -12,7 +12,7 @@ use Rattle.model.proofs.Tests.{if-by}
 use Rattle.model.proofs.Words.{length_word}
 use Rattle.buffers.specs.Session.{Session, Done, lent, table_words, opened_tally, open_on, call_on}
 use Rattle.executor.specs.Perform.{opens, perform_of, performed_all}
-use Rattle.transcript.specs.Types.{Command, Open, Put, Get, Step, Look, Inspect, Opening, Permit, Granted, Denied}
+use Rattle.transcript.specs.Types.{Command, Open, Put, Get, Step, Look, Inspect, Opening, Permit, Ok, Err}
 use Rattle.transcript.specs.BySheet.{BufferLengths}
 use Rattle.transcript.proofs.Steps.{step_keeps}
 
@@ -26,8 +26,8 @@ module _ (nodes versions : List ℕ) (p limit : ℕ) where
   open_by_lem : (d : Permit) → let o = open_by d nodes versions p limit in
       (length o.nodes ≡ length nodes) × (length o.versions ≡ length versions)
   unfolding open_by
-  open_by_lem (Denied r) = (refl, refl)
-  open_by_lem Granted = (length_fresh (length nodes), length-replicate (length versions) 0)
+  open_by_lem (Err r) = (refl, refl)
+  open_by_lem (Ok _) = (length_fresh (length nodes), length-replicate (length versions) 0)
 
   open_long : let o = open_of nodes versions p limit in
       (length o.nodes ≡ length nodes) × (length o.versions ≡ length versions)
@@ -45,8 +45,8 @@ same : (w : Session) → SameLengths w w
 same w = record { nodes = refl; versions = refl; tally = refl }
 
 tally_long : (o : Opening) (tally : List ℕ) → length (opened_tally o tally) ≡ length tally
-tally_long Opening.Opened tally = length-replicate (length tally) 0
-tally_long (Opening.Refused r) tally = refl
+tally_long (Ok _) tally = length-replicate (length tally) 0
+tally_long (Err r) tally = refl
 
 call_keeps : (w : Session) (c : Command) → SameLengths w (call_on w c).session
 unfolding call_on open_on

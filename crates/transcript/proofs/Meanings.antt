@@ -7,49 +7,49 @@ use Rattle.model.proofs.Tests.{if-by}
 use Rattle.lines.specs.Outcomes.{open_line, start_line, step_line, look_line, inspect_line}
 use Rattle.buffers.specs.Session.{Session, Done, lent, open_on, call_on}
 use Rattle.executor.specs.Perform.{opens, perform_of}
-use Rattle.transcript.specs.Types.{Command, Open, Put, Get, Step, Look, Inspect, Line, NotOpen}
+use Rattle.transcript.specs.Types.{Command, Open, Put, Get, Step, Look, Inspect, Line, NotOpen, Ok, Err, Progress, Some, Option}
 use Rattle.transcript.specs.Types.{Opening, Starting, Stepping, Looking, Inspecting}
 use Rattle.transcript.specs.Meanings.{open_meant, start_meant, step_meant, look_meant, inspect_meant}
 use Rattle.transcript.specs.Sheets.{printed_again}
 
 pub open_meant_lem : (k v p limit : ℕ) (o : Opening) → open_meant (open_line k v p limit o) ≡ o
-open_meant_lem k v p limit (Opening.Refused r) = refl
-open_meant_lem k v p limit Opening.Opened = refl
+open_meant_lem k v p limit (Err r) = refl
+open_meant_lem k v p limit (Ok _) = refl
 
 pub start_meant_lem : (i : ℕ) (o : Starting) → start_meant (start_line i o) ≡ o
-start_meant_lem i (Starting.Refused r) = refl
-start_meant_lem i (Starting.Started t) = refl
+start_meant_lem i (Err r) = refl
+start_meant_lem i (Ok t) = refl
 
 -- what a step shows, its line does not tell
 abbrev pub Unshown : Stepping → Type 0
-Unshown (Stepping.Refused r) = Unit {0}
-Unshown (Stepping.Moved t) = Unit {0}
-Unshown (Stepping.Waited t) = Unit {0}
-Unshown (Stepping.Shown t x) = ⊥
-Unshown (Stepping.Finished f) = Unit {0}
+Unshown (Err r) = Unit {0}
+Unshown (Ok (Progress.Moved t)) = Unit {0}
+Unshown (Ok (Progress.Waited t)) = Unit {0}
+Unshown (Ok (Progress.Shown t x)) = ⊥
+Unshown (Ok (Progress.Finished f)) = Unit {0}
 
 pub step_meant_lem : (i : ℕ) (o : Stepping) → Unshown o → step_meant (step_line i o) ≡ o
-step_meant_lem i (Stepping.Refused r) u = refl
-step_meant_lem i (Stepping.Moved t) u = refl
-step_meant_lem i (Stepping.Waited t) u = refl
-step_meant_lem i (Stepping.Shown t x) u = absurd u
-step_meant_lem i (Stepping.Finished f) u = refl
+step_meant_lem i (Err r) u = refl
+step_meant_lem i (Ok (Progress.Moved t)) u = refl
+step_meant_lem i (Ok (Progress.Waited t)) u = refl
+step_meant_lem i (Ok (Progress.Shown t x)) u = absurd u
+step_meant_lem i (Ok (Progress.Finished f)) u = refl
 
 step_again : (i : ℕ) (o : Stepping) → step_line i (step_meant (step_line i o)) ≡ step_line i o
-step_again i (Stepping.Refused r) = refl
-step_again i (Stepping.Moved t) = refl
-step_again i (Stepping.Waited t) = refl
-step_again i (Stepping.Shown t x) = refl
-step_again i (Stepping.Finished f) = refl
+step_again i (Err r) = refl
+step_again i (Ok (Progress.Moved t)) = refl
+step_again i (Ok (Progress.Waited t)) = refl
+step_again i (Ok (Progress.Shown t x)) = refl
+step_again i (Ok (Progress.Finished f)) = refl
 
 pub look_meant_lem : (k back : ℕ) (o : Looking) → look_meant (look_line k back o) ≡ o
-look_meant_lem k back (Looking.Refused r) = refl
-look_meant_lem k back (Looking.Shown v) = refl
+look_meant_lem k back (Err r) = refl
+look_meant_lem k back (Ok v) = refl
 
 pub inspect_meant_lem : (o : Inspecting) → inspect_meant (inspect_line o) ≡ o
-inspect_meant_lem (Inspecting.Refused r) = refl
-inspect_meant_lem Inspecting.Sound = refl
-inspect_meant_lem (Inspecting.Fault level node) = refl
+inspect_meant_lem (Err r) = refl
+inspect_meant_lem (Ok Option.None) = refl
+inspect_meant_lem (Ok (Some f)) = refl
 
 abbrev Again : Command → Line → Type 0
 Again c l = printed_again c l ≡ l

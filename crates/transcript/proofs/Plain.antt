@@ -11,7 +11,7 @@ use Rattle.model.specs.Calls.{open_by, open_of, begun, start_by, start_of, call_
 use Rattle.model.proofs.Tests.{if-by}
 use Rattle.buffers.specs.Session.{Session, Done, lent, opened_on, open_on, call_on}
 use Rattle.executor.specs.Perform.{opens, perform_of}
-use Rattle.transcript.specs.Types.{Command, Open, Put, Get, Step, Look, Inspect, Line, Permit, Granted, Denied, Call, Process, State}
+use Rattle.transcript.specs.Types.{Command, Open, Put, Get, Step, Look, Inspect, Line, Permit, Ok, Err, Call, Process, State}
 use Rattle.transcript.specs.Types.{Move, Refuse, Wait, Go, Note, Commit, Show, End}
 use Rattle.transcript.specs.Meanings.{step_meant}
 use Rattle.transcript.proofs.Meanings.{step_meant_lem}
@@ -54,13 +54,13 @@ pub record Plain (s : State) : Type 0 where
 
 start_plain : (d : Permit) (s : State) (i : ℕ) (call : Call) → Plain s → NoScan (begun call) → Plain (start_by d s i call).state
 unfolding start_by
-start_plain (Denied r) s i call p none = p
-start_plain Granted s i call p none = record { open_now = p.open_now; no_scans = set_each s.process i _ p.no_scans none }
+start_plain (Err r) s i call p none = p
+start_plain (Ok _) s i call p none = record { open_now = p.open_now; no_scans = set_each s.process i _ p.no_scans none }
 
 step_plain : (d : Permit) (w : Store) (i : ℕ) (v : Moved) → Plain w.state → Plain (step_by d w i v).store.state
 unfolding step_by
-step_plain (Denied r) w i v p = p
-step_plain Granted w i v p =
+step_plain (Err r) w i v p = p
+step_plain (Ok _) w i v p =
     if-by (λ (x : Store). Plain x.state) (refuses v.move) (λ t. p)
     (λ t. record {
       open_now = p.open_now;
@@ -91,8 +91,8 @@ module _ (w : Session) (k v p limit : ℕ) where
   opened_by : (d : Permit) (nodes versions : List ℕ) → let o = opened_on w k v p limit (open_by d nodes versions p limit) in
       o.line ≡ Line.Opened k v p limit → Plain o.session.state
   unfolding open_by
-  opened_by (Denied r) nodes versions e = absurd (let z : ◌≡◌ {A = ℕ} 0 1 = cc in omega arith)
-  opened_by Granted nodes versions e = record { open_now = refl; no_scans = same_each 8 _ refl }
+  opened_by (Err r) nodes versions e = absurd (let z : ◌≡◌ {A = ℕ} 0 1 = cc in omega arith)
+  opened_by (Ok _) nodes versions e = record { open_now = refl; no_scans = same_each 8 _ refl }
 
   pub opens_plain : (perform_of w (Open k v p limit)).line ≡ Line.Opened k v p limit
       → Plain (perform_of w (Open k v p limit)).session.state

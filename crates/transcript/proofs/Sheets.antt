@@ -15,7 +15,7 @@ use Rattle.model.proofs.Tests.{if-by}
 use Rattle.buffers.specs.Session.{Session, Done, opened_on, open_on, call_on}
 use Rattle.executor.specs.Perform.{opens, perform_of, AllDone, performed_all}
 use Rattle.interpreter.specs.Sheet.{sheet_of}
-use Rattle.transcript.specs.Types.{Command, Open, Put, Get, Step, Look, Inspect, Line, Refusal, NotOpen, Permit, Granted, Denied, Stepping}
+use Rattle.transcript.specs.Types.{Command, Open, Put, Get, Step, Look, Inspect, Line, Refusal, NotOpen, Permit, Ok, Err, Stepping}
 use Rattle.transcript.specs.Meanings.{open_meant}
 use Rattle.transcript.specs.BySheet.{BufferLengths, Asked, fitting_for, by_sheet}
 use Rattle.transcript.specs.Sheets.{Reached, NoOpen, action_in, actions_in, entry_in, entries_in, run_of}
@@ -134,8 +134,8 @@ module _ (w : Session) (k v p limit : ℕ) (r : Refusal) where
   closed_by : (d : Permit) (nodes versions : List ℕ) → let o = opened_on w k v p limit (open_by d nodes versions p limit) in
       o.line ≡ Line.Refused r → o.session.state.opened ≡ false
   unfolding open_by
-  closed_by (Denied q) nodes versions e = refl
-  closed_by Granted nodes versions e = cc
+  closed_by (Err q) nodes versions e = refl
+  closed_by (Ok _) nodes versions e = cc
 
   closes : (open_on w k v p limit).line ≡ Line.Refused r → (open_on w k v p limit).session.state.opened ≡ false
   unfolding open_on open_of

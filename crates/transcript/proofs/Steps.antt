@@ -16,7 +16,7 @@ use Rattle.model.specs.Calls.{Store, step_permit, outcome_of, step_by, step_of}
 use Rattle.model.proofs.Laws.{length_tally}
 use Rattle.model.proofs.Tests.{if-by, and→}
 use Rattle.model.proofs.Words.{length_word, length_node, length_version}
-use Rattle.transcript.specs.Types.{Permit, Granted, Denied, Call, Cursor, Effect, Process, Kind}
+use Rattle.transcript.specs.Types.{Permit, Ok, Err, Call, Cursor, Effect, Process, Kind}
 use Rattle.transcript.specs.Types.{Phase, Walk, Read, Seek, Lock, Check, Update, Make, Link, Release, Follow}
 use Rattle.transcript.specs.Types.{Ahead, Unused, Less, Equal, Past, Move, Refuse, Wait, Go, Note, Commit, Show, End}
 use Rattle.transcript.proofs.Meanings.{Unshown}
@@ -189,8 +189,8 @@ module _ (w : Store) (i : ℕ) (m : Memory) (l : Long (memory_of w.state w.nodes
 
   step_by_lem : (p : Permit) (v : Move) → Keeps w (step_by p w i (moved m v)).store
   unfolding step_by
-  step_by_lem (Denied r) v = as_it_was
-  step_by_lem Granted v = if-by (Keeps w) (refuses v) (λ t. as_it_was) (λ t. record {
+  step_by_lem (Err r) v = as_it_was
+  step_by_lem (Ok _) v = if-by (Keeps w) (refuses v) (λ t. as_it_was) (λ t. record {
     nodes = l.nodes;
     versions = l.versions;
     tally = length_tally w.tally v;
@@ -214,8 +214,8 @@ outcome_unshown tick call (End a v e) s = tt
 
 unshown_by : (d : Permit) (w : Store) (i : ℕ) (v : Moved) → Silent v.move → Unshown (step_by d w i v).outcome
 unfolding step_by
-unshown_by (Denied r) w i v s = tt
-unshown_by Granted w i v s = outcome_unshown _ (process_at w.state i).call v.move s
+unshown_by (Err r) w i v s = tt
+unshown_by (Ok _) w i v s = outcome_unshown _ (process_at w.state i).call v.move s
 
 pub step_unshown : (w : Store) (i : ℕ) → NoScan (process_at w.state i) → Unshown (step_of w i).outcome
 unfolding step_of

@@ -6,15 +6,13 @@ ghost use Rattle.tables.specs.Room.{nodes_in};
 ghost use Rattle.transition.specs.Process.{process};
 
 use model::types::{Call, Cursor, Effect, Kind, Role, State};
-use values::roles::{from_put, is_put, plays, role_of};
+use values::roles::{from_put, plays, role_of};
 
 // Where a put has taken effect, its answer is a put's.
 fn suits_put(e: Effect) -> bool
     ensures { result ≡ (no_effect e || from_put e.answer) }
 {
-    let answer = e.answer;
-    let answered = from_put(answer);
-    (e.tick == 0) | answered
+    e.tick == 0 || from_put(e.answer)
 }
 
 // Only a put has an effect before its end, and at release it has its answer.
@@ -22,20 +20,10 @@ fn lawful_effect(kind: Kind, role: Role, e: Effect) -> bool
     ensures { result ≡ lawful_effect kind role e }
 {
     match role {
-        Role::Searching => {
-            if is_put(kind) {
-                suits_put(e)
-            } else {
-                e.tick == 0
-            }
-        }
-        Role::Reading => e.tick == 0,
+        Role::Searching if kind == Kind::Put => suits_put(e),
+        Role::Searching | Role::Reading | Role::Following => e.tick == 0,
         Role::Writing => suits_put(e),
-        Role::Releasing => {
-            let answer = e.answer;
-            from_put(answer)
-        }
-        Role::Following => e.tick == 0,
+        Role::Releasing => from_put(e.answer),
     }
 }
 
@@ -43,14 +31,10 @@ fn lawful_effect(kind: Kind, role: Role, e: Effect) -> bool
 fn lawful_at(kind: Kind, role: Role, e: Effect) -> bool
     ensures { result ≡ lawful_at kind role e }
 {
-    if plays(kind, role) {
-        lawful_effect(kind, role, e)
-    } else {
-        false
-    }
+    plays(kind, role) && lawful_effect(kind, role, e)
 }
 
-// `used` is the last node in use. Left at the first fault: every step asks this.
+// `used` is the last node in use. Left at the first fault: every step asks this, and takes 2 instructions more where `&&` joins the tests.
 #[tactic(auto, unfolding(model::specs::Phases::lawful_process))]
 pub fn lawful(call: Call, c: Cursor, e: Effect, used: u32) -> bool
     ensures { (preds nodes versions : List ℕ) (n : ℕ) → result ≡ lawful_process (process call c e preds) (nodes_in nodes used versions n) }
@@ -61,8 +45,5 @@ pub fn lawful(call: Call, c: Cursor, e: Effect, used: u32) -> bool
     if used < c.pred {
         return false;
     }
-    let kind = call.kind;
-    let phase = c.phase;
-    let role = role_of(phase);
-    lawful_at(kind, role, e)
+    lawful_at(call.kind, role_of(c.phase), e)
 }

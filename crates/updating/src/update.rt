@@ -1,93 +1,59 @@
 // Update: the step of a put that writes a version.
-ghost use Rattle.std.specs.Prelude.{◌≡◌, ◌≤◌};
-ghost use Rattle.model.specs.Phases.{add_version, update_node, update_of};
-ghost use Rattle.tables.specs.Room.{NodeRoom, VersionSpare, Lent, memory};
-ghost use Rattle.phases.specs.Ready.{Ready, leaves};
+ghost use Rattle.std.specs.Prelude.{◌≡◌, ◌≤◌, ◌+◌};
+ghost use Rattle.model.specs.Phases.{moved, add_version, update_node, update_of};
+ghost use Rattle.tables.specs.Room.{VersionRoom};
+ghost use Rattle.versiontable.specs.Held.{held, SameTables};
+ghost use Rattle.phases.specs.Placed.{Placed};
 
-use model::types::{Answer, Call, Counts, Cursor, Move};
-use phases::moves::keep;
-use phases::types::Transition;
-use tables::nodes::{newest_at, next_at, set_newest};
-use versiontable::versions::{timestamp_at, versions_full, write_version};
+use model::types::{Answer, Call, Cursor, Move};
+use phases::moves::commit;
+use versiontable::memory::Memory;
 
 // The call's version in front of a node's.
 #[tactic(auto, unfolding(model::specs::Phases::add_version))]
-fn add_version(
-    call: Call,
-    node: u32,
-    counts: Counts,
-    nodes: &mut [u32],
-    versions: &mut [u32],
-) -> Counts
-    requires node_room { NodeRoom nodes.old node }
-    requires version_spare { VersionSpare versions.old counts.versions }
-    ensures { memory nodes.new versions.new result
-        ≡ add_version call node (memory nodes.old versions.old counts) }
+fn add_version(call: Call, node: u32, memory: &mut Memory)
+    requires node { node ≤ memory.old.counts.nodes }
+    requires room { VersionRoom memory.old.versions.now (memory.old.counts.versions + 1) }
+    ensures memory { held memory.new ≡ add_version call node (held memory.old) }
+    ensures tables { SameTables memory.old memory.new }
 {
-    let i = counts.versions + 1;
-    let prev = newest_at(nodes, node);
-    write_version(versions, i, call.value, call.timestamp, prev);
-    set_newest(nodes, node, i);
-    Counts {
-        nodes: counts.nodes,
-        versions: i,
-    }
+    let prev = memory.newest(node);
+    let version = memory.add_version(call.value, call.timestamp, prev);
+    memory.set_newest(node, version);
 }
 
 // The put on a node whose newest version is in use.
 #[tactic(auto, unfolding(model::specs::Phases::update_node))]
-fn update_node(
-    call: Call,
-    c: Cursor,
-    node: u32,
-    newest: u32,
-    counts: Counts,
-    nodes: &mut [u32],
-    versions: &mut [u32],
-) -> Transition
-    requires node_room { NodeRoom nodes.old node }
-    requires newest_le_versions { newest ≤ counts.versions }
-    requires lent { Lent nodes.old versions.old counts }
-    ensures { leaves result nodes.new versions.new
-        ≡ update_node call c node newest (memory nodes.old versions.old counts) }
+fn update_node(call: Call, c: Cursor, node: u32, newest: u32, memory: &mut Memory) -> Move
+    requires node { node ≤ memory.old.counts.nodes }
+    requires newest { newest ≤ memory.old.counts.versions }
+    ensures moved { moved (held memory.new) result ≡ update_node call c node newest (held memory.old) }
+    ensures tables { SameTables memory.old memory.new }
 {
-    if call.timestamp < timestamp_at(versions, newest) {
-        return keep(c, Answer::TooOld, counts);
+    if call.timestamp < memory.timestamp(newest) {
+        return commit(c, c.made, Answer::TooOld);
     }
-    if versions_full(versions, counts.versions) {
-        return keep(c, Answer::VersionsFull, counts);
+    if memory.versions_full() {
+        return commit(c, c.made, Answer::VersionsFull);
     }
-    let more = add_version(call, node, counts, nodes, versions);
-    keep(c, Answer::Added, more)
+    add_version(call, node, memory);
+    commit(c, c.made, Answer::Added)
 }
 
 // The put on the node that the predecessor's link at level 0 leads to.
 #[tactic(auto, unfolding(model::specs::Phases::update_at, model::specs::Phases::update_of))]
-pub fn update(
-    call: Call,
-    c: Cursor,
-    counts: Counts,
-    nodes: &mut [u32],
-    versions: &mut [u32],
-) -> Transition
-    requires ready { Ready nodes.old counts.nodes c }
-    requires lent { Lent nodes.old versions.old counts }
-    ensures { leaves result nodes.new versions.new
-        ≡ update_of call c (memory nodes.old versions.old counts) }
+pub fn update(call: Call, c: Cursor, memory: &mut Memory) -> Move
+    requires { Placed c memory.old }
+    ensures moved { moved (held memory.new) result ≡ update_of call c (held memory.old) }
+    ensures tables { SameTables memory.old memory.new }
 {
-    let node = next_at(nodes, 0, c.pred);
-    let used = counts.nodes;
-    let node_used = (1 <= node) & (node <= used);
-    if node_used {
-        let newest = newest_at(nodes, node);
-        let last = counts.versions;
-        let newest_used = (1 <= newest) & (newest <= last);
-        if newest_used {
-            return update_node(call, c, node, newest, counts, nodes, versions);
-        }
+    let node = memory.next(0, c.pred);
+    if !memory.has_node(node) {
+        return Move::Refuse;
     }
-    Transition {
-        mv: Move::Refuse,
-        counts,
+    let newest = memory.newest(node);
+    if !memory.has_version(newest) {
+        return Move::Refuse;
     }
+    update_node(call, c, node, newest, memory)
 }

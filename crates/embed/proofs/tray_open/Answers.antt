@@ -5,4 +5,4 @@ use Rattle.embed.proofs.tray_open.Goals as goal
 
 pub returns : goal.returns
 unfolding tray_open
-returns c = open_told_lem _ _ _ _ _ _ c.tell_open.ensures c.open_in-outcome.ensures
+returns c = open_told_lem _ _ _ _ _ _ c.tell_open.ensures c.open_in.ensures

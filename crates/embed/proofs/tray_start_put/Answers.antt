@@ -5,4 +5,4 @@ use Rattle.embed.proofs.tray_start_put.Goals as goal
 
 pub returns : goal.returns
 unfolding tray_start
-returns c = start_told_lem _ _ _ _ c.tell_start.ensures c.start_put_in-outcome.ensures
+returns c = start_told_lem _ _ _ _ c.tell_start.ensures c.start_put_in.ensures

@@ -5,4 +5,4 @@ use Rattle.embed.proofs.tray_step.Goals as goal
 
 pub returns : goal.returns
 unfolding tray_step
-returns c = step_told_lem _ _ _ _ _ _ _ c.tell_step.ensures c.step_in-outcome.ensures
+returns c = step_told_lem _ _ _ _ _ _ _ c.tell_step.ensures c.step_in.ensures

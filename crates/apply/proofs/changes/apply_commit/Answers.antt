@@ -5,4 +5,4 @@ use Rattle.apply.proofs.changes.apply_commit.Goals as goal
 pub returns : goal.returns
 returns c =
     simp (c.put_effect.ensures, c.put_cursor.ensures)
-    (commits c.args.w.now c.requires.w_len c.requires.w_value c.args.tick _ _)
+    (commits c.args.w.now c.requires.len c.requires.known c.args.tick _ _)

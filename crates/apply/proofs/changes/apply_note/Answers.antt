@@ -5,4 +5,4 @@ use Rattle.apply.proofs.changes.apply_note.Goals as goal
 
 pub returns : goal.returns
 returns c tick =
-    c.put_cursor.ensures ∙ notes c.args.w.now c.requires.w_len c.requires.w_value tick _
+    c.put_cursor.ensures ∙ notes c.args.w.now c.requires.len c.requires.known tick _

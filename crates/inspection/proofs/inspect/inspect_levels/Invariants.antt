@@ -27,10 +27,7 @@ invariant-links l =
 abbrev pub decreases-links : goal.decreases-links
 decreases-links l = ahead (memory l.nodes l.versions l.counts) l.level l.node
 
-abbrev pub invariant-levels : goal.invariant-levels
-invariant-levels l =
+abbrev pub invariant-loop-level : goal.invariant-loop-level
+invariant-loop-level l =
     let m = memory l.nodes l.versions l.counts in
-    (l.level ≤ top_level) × (l.due ≡ reaching l.nodes l.level l.counts.nodes) × (inspection m ≡ levels_from m (levels - l.level) l.level)
-
-abbrev pub decreases-levels : goal.decreases-levels
-decreases-levels l = levels - l.level
+    (l.level ≤ top_level → l.due ≡ reaching l.nodes l.level l.counts.nodes) × (inspection m ≡ levels_from m (levels - l.level) l.level)

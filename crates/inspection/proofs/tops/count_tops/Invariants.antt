@@ -1,5 +1,5 @@
--- The loop keeps the counts over the x nodes passed.
-use Prim.Native.Nat.{◌-◌, ◌≤◌}
+-- The loop keeps the counts over the nodes before x.
+use Prim.Native.Nat.{◌+◌, ◌-◌, ◌≤◌}
 use mathlib.Core.Path.{◌≡◌}
 use lib.ListN.{length}
 use Rattle.model.specs.Layout.{levels}
@@ -7,7 +7,4 @@ use Rattle.inspection.specs.Tops.{TopCounts}
 use Rattle.inspection.proofs.tops.count_tops.Given as goal
 
 abbrev pub invariant-loop-x : goal.invariant-loop-x
-invariant-loop-x l = (l.x ≤ l.used) × (length l.counts ≡ levels) × TopCounts l.nodes l.x l.counts
-
-abbrev pub decreases-loop-x : goal.decreases-loop-x
-decreases-loop-x l = l.used - l.x
+invariant-loop-x l = (l.x ≤ l.used + 1) × (length l.counts ≡ levels) × TopCounts l.nodes (l.x - 1) l.counts

@@ -1,22 +1,21 @@
--- The processes still to be looked at decide.
-use mathlib.Core.Path.{◌∙◌}
-use native.Mathlib.Omega.{arith}
-use Rattle.layout.proofs.Known.{unknown_first, known_first, none_left}
+-- Each part is tested.
+use Prim.Native.Nat.{ℕ, ◌<◌}
+use mathlib.Core.Bool.{true, false}
+use mathlib.Core.List.{[]}
+use mathlib.Core.Path.{◌≡◌, sym, ap, ◌∙◌}
+use lib.ListN.{take, drop, get_or}
+use borrow.Author.Rules.{rules}
+use Rattle.model.specs.Layout.{limits}
+use Rattle.process.specs.ProcessWords.{sizes, known_process}
+use Rattle.layout.proofs.Parts.{all_parts}
 use Rattle.layout.proofs.state.all_known.Goals as goal
 
-pub returns-then-not-is_process : goal.returns-then-not-is_process
-returns-then-not-is_process c =
-    let l = c.loop-left in
-    unknown_first _ l.at l.left (omega arith) c.is_process.result
-    c.is_process.ensures (c.if-not-is_process.true) ∙ l.invariant.1
-
-pub loop-left-preserved : goal.loop-left-preserved
-loop-left-preserved c =
-    let l = c.loop-left in (
-      omega arith,
-      known_first _ l.at l.left (omega arith) c.is_process.result
-          c.is_process.ensures (c.if-not-is_process.false) ∙ l.invariant.1,
-    )
-
 pub returns : goal.returns
-returns c = none_left _ _ (omega arith) ∙ c.loop-left.invariant.1
+returns c =
+    let a = c.args in
+    let to : c.all.result ≡ true → (k : ℕ) → k < a.n → known_process (get_or (take a.n c.processes.result.now) k []) ≡ true = search rules in
+    let from : c.all.result ≡ false → (k : ℕ) × (k < a.n) × (known_process (get_or (take a.n c.processes.result.now) k []) ≡ false) = search rules in
+    let behind = drop sizes.head a.words.now in
+    all_parts limits.processes a.n behind c.all.result c.requires
+    (λ t k l. ap (λ ps. known_process (get_or (take a.n ps) k [])) (sym c.processes.ensures) ∙ to t k l)
+    (λ f. let at = from f in (at.0, at.1, ap (λ ps. known_process (get_or (take a.n ps) at.0 [])) (sym c.processes.ensures) ∙ at.2))

@@ -1,8 +1,9 @@
 -- The head, then the process's own words.
-use Prim.Native.Nat.{◌+◌, ◌*◌}
-use mathlib.Core.Path.{ap, ◌∙◌}
-use Rattle.process.specs.ProcessWords.{sizes, known_process}
-use Rattle.layout.proofs.Known.{part_is, no_head, by_one, by_none}
+use mathlib.Core.Path.{◌≡◌, ap, ◌∙◌}
+use borrow.Author.Rules.{rules}
+use Rattle.process.specs.ProcessWords.{known_process}
+use Rattle.layout.specs.StateWords.{part}
+use Rattle.layout.proofs.Known.{no_head, by_one, by_none}
 use Rattle.layout.proofs.state.is_state_at.Goals as goal
 
 pub returns-then-not-is_head : goal.returns-then-not-is_head
@@ -13,6 +14,6 @@ returns-then-process-ge-PROCESSES c = by_none _ _ _ c.is_head.ensures (c.if-not-
 
 pub returns : goal.returns
 returns c =
-    let a = c.args in
-    c.is_process.ensures ∙ ap known_process (part_is a.words.now (sizes.head + sizes.process * a.process))
+    let same : c.unwrap.result.now ≡ c.args.words.now = search rules in
+    c.is_process.ensures ∙ ap known_process (c.process_at.ensures ∙ ap (λ w. part w c.args.process) same)
     ∙ by_one _ _ _ c.is_head.ensures (c.if-not-is_head.false)

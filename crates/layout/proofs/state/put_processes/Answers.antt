@@ -1,21 +1,23 @@
--- Those written stand at the front.
-use mathlib.Core.Path.{◌≡◌, ◌∙◌}
+-- The words of each.
+use Prim.Native.Nat.{◌≤◌}
+use mathlib.Core.List.{[], ◌++◌, append-nil}
+use mathlib.Core.Path.{◌≡◌, ap, ◌∙◌}
 use native.Mathlib.Omega.{arith}
-use lib.ListN.{length, take}
+use lib.ListN.{length, take, drop, length-drop, drop_of_length-le}
 use borrow.Author.Rules.{rules}
-use Rattle.model.specs.Layout.{limits}
-use Rattle.process.specs.ProcessWords.{sizes}
-use Rattle.layout.proofs.Known.{part_long}
-use Rattle.layout.proofs.Whole.{write_next}
+use Rattle.std.specs.List.{flat_map}
+use Rattle.process.specs.ProcessWords.{sizes, process_words}
+use Rattle.layout.proofs.Parts.{mapped, words_joined}
+use Rattle.layout.specs.StateWords.{all_words}
 use Rattle.layout.proofs.state.put_processes.Goals as goal
 
-pub loop-i-preserved : goal.loop-i-preserved
-loop-i-preserved c =
-    let l = c.loop-i in
-    let a = c.args in
-    let eight : length a.process ≡ limits.processes = search rules in
-    let long = c.put_process.auto.w ∙ part_long l.words l.at (omega arith) in
-    let f = write_next (take sizes.head a.words.now) a.process eight l.words _ l.at l.i _
-    c.loop-i-test.true l.invariant.1 l.invariant.2 long
-    c.put_process.ensures l.invariant.3 in
-    (omega arith, omega arith, f.0, f.1)
+pub returns : goal.returns
+returns c =
+    let w = c.args.words.now in
+    let each = mapped process_words c.args.process c.map.result (search rules) (λ i d e k. search (c.map.ensures.items.at i d e, rules)) in
+    let after : c.copy_from_slice.new.self ≡ all_words c.args.process =
+    c.copy_from_slice.ensures.after ∙ c.as_flattened.ensures.value ∙ ap (flat_map (λ x. x)) each ∙ words_joined c.args.process in
+    let none : drop 168 (drop sizes.head w) ≡ [] = let long : length (drop sizes.head w) ≤ 168 = rw length-drop (omega (arith, c.told-words)) in drop_of_length-le (drop sizes.head w) long in
+    ap (λ v. take sizes.head w ++ (v ++ drop 168 (drop sizes.head w))) after
+    ∙ ap (λ r. take sizes.head w ++ (all_words c.args.process ++ r)) none
+    ∙ ap (λ r. take sizes.head w ++ r) (append-nil (all_words c.args.process))

@@ -2,6 +2,7 @@
 use mathlib.Core.List.{◌++◌}
 use mathlib.Core.Path.{ap, ◌∙◌}
 use lib.ListN.{take}
+use borrow.Author.Rules.{rules}
 use Rattle.process.specs.ProcessWords.{sizes}
 use Rattle.layout.specs.StateWords.{all_words, state_words}
 use Rattle.layout.proofs.Whole.{head_front}
@@ -13,4 +14,4 @@ returns c =
     let ps = c.args.s.process in
     c.put_processes.ensures
     ∙ ap (λ w. take sizes.head w ++ all_words ps) c.put_head.ensures
-    ∙ ap (λ h. h ++ all_words ps) (head_front c.args.s c.args.words.now c.requires)
+    ∙ ap (λ h. h ++ all_words ps) (head_front c.args.s c.args.words.now (search rules))

@@ -1,7 +1,5 @@
 -- The head, then the store that it shows, then the process.
-use mathlib.Core.Bool.{true}
 use mathlib.Core.Path.{sym, ◌∙◌}
-use Rattle.model.specs.State.{lawful_store}
 use Rattle.layout.specs.StateWords.{state_from}
 use Rattle.lent.proofs.Laws.{header_known, lawful_headless, lawful_unlawful, lawful_known}
 use Rattle.lentstep.proofs.step.lawful_in.Goals as goal

@@ -1,30 +1,21 @@
--- The loop keeps: the search behind the x nodes passed finds what the whole search finds.
-use mathlib.Core.Path.{◌∙◌, sym}
-use native.Mathlib.Omega.{arith}
-use Rattle.queries.proofs.LookTurns.{find_hit, find_miss, find_end}
+-- The node found is the first with the key, and where none is found, none has it. At place j of the range lies j.
+use Rattle.std.proofs.Common.{rules, ◌≡◌, ◌≤◌, ◌<◌, ◌+◌, ◌-◌, ℕ, arith, Some, [], false}
+use Rattle.std.specs.Option.{option_map}
+use Rattle.std.specs.Range.{range_inclusive_exhausted}
+use Rattle.std.proofs.lemmas.Grind.{common_steps}
+use Rattle.std.proofs.iter.runs.Sources.{ranges, inclusive_listed}
+use Rattle.queries.proofs.LookTurns.{found_is}
 use Rattle.queries.proofs.look.find.Goals as goal
-
-pub returns-then-key_at-key : goal.returns-then-key_at-key
-returns-then-key_at-key c =
-    let a = c.args in
-    let l = c.loop-x in
-    sym
-    (l.invariant.1
-    ∙ find_hit a.nodes.now a.key a.used l.x c.key_at.result c.loop-x-test.true
-    c.key_at.ensures (omega (arith, c.if-key_at-key.true)))
-
-pub loop-x-preserved : goal.loop-x-preserved
-loop-x-preserved c =
-    let a = c.args in
-    let l = c.loop-x in (
-      omega arith,
-      l.invariant.1
-          ∙ find_miss a.nodes.now a.key a.used l.x c.key_at.result c.loop-x-test.true c.key_at.ensures
-          (omega (arith, c.if-key_at-key.false)),
-    )
 
 pub returns : goal.returns
 returns c =
     let a = c.args in
-    let l = c.loop-x in
-    sym (l.invariant.1 ∙ find_end a.nodes.now a.key a.used l.x c.loop-x-test.false)
+    let p = c.find.ensures.runs.0 in
+    let l = inclusive_listed p p.seen in
+    let fresh : range_inclusive_exhausted p.from ≡ false = search rules in
+    let at : (j : ℕ) → 1 ≤ j → j < 1 + p.len → option_map (λ y. y) (p.at (j - l.0)) ≡ Some j =
+    λ j low high. ((l.4 fresh).1 [] j 0 (search rules) (search rules)).1 in
+    found_is a.nodes.now a.key a.used c.find.result
+    (λ e j low high same. grind (arith, ranges, common_steps, at j low (search (rules, ranges))))
+    (λ i e. search (rules, ranges))
+    λ i e j low high same. grind (arith, ranges, common_steps, at j low (search (rules, ranges)))

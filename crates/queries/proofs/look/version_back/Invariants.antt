@@ -1,12 +1,8 @@
--- The loop keeps: what lies `left` places behind i is what the whole look shows.
-use Prim.Native.Nat.{◌≤◌}
+-- The loop keeps: what lies as many places behind i as are left is what the whole look shows.
+use Prim.Native.Nat.{◌-◌, ◌≤◌}
 use mathlib.Core.Path.{◌≡◌}
 use Rattle.model.specs.Calls.{back_from}
 use Rattle.queries.proofs.look.version_back.Given as goal
 
-abbrev pub invariant-loop-left : goal.invariant-loop-left
-invariant-loop-left l =
-    (l.i ≤ l.from) × (l.left ≤ l.back) × (back_from l.versions l.back l.from ≡ back_from l.versions l.left l.i)
-
-abbrev pub decreases-loop-left : goal.decreases-loop-left
-decreases-loop-left l = l.left
+abbrev pub invariant-loop : goal.invariant-loop
+invariant-loop l = (l.i ≤ l.from) × (back_from l.versions l.back l.from ≡ back_from l.versions (l.back - l.counter) l.i)

@@ -3,6 +3,7 @@ use mathlib.Core.Bool.{true, false}
 use mathlib.Core.Path.{refl, sym, ap, ◌∙◌}
 use lib.Dec.{leb, eqb}
 use lib.ListN.{length, get_or}
+use borrow.Author.Rules.{rules}
 use borrow.Author.Tests.{le-leb, lt-leb, eq-eqb, ne_eqb}
 use Rattle.model.specs.Layout.{limits}
 use Rattle.model.specs.Calls.{no_such, spent}
@@ -47,8 +48,8 @@ returns-then-h-process c =
     refl
     refl
 
-pub returns-then-is_idle : goal.returns-then-is_idle
-returns-then-is_idle c =
+pub returns-then-eq : goal.returns-then-eq
+returns-then-eq c =
     λ s e.
     let a = c.args in
     step_by_lem s a.nodes.now a.versions.now a.process a.kind e.found a.tally.now
@@ -57,7 +58,7 @@ returns-then-is_idle c =
     ∙ c.if-not-lawful_store.false)
     (eq-eqb _ _ c.if-tally.false)
     (ap (λ h. leb (get_or h header_offsets.processes 0) a.process) e.same ∙ lt-leb _ _ c.if-h-process.false)
-    (sym c.is_idle.ensures ∙ c.if-is_idle.true)
+    (search rules)
     refl
 
 pub returns-then-h : goal.returns-then-h
@@ -70,7 +71,7 @@ returns-then-h c =
     ∙ c.if-not-lawful_store.false)
     (eq-eqb _ _ c.if-tally.false)
     (ap (λ h. leb (get_or h header_offsets.processes 0) a.process) e.same ∙ lt-leb _ _ c.if-h-process.false)
-    (sym c.is_idle.ensures ∙ c.if-is_idle.false)
+    (search rules)
     (ap (λ h. leb (get_or h header_offsets.limit 0) (get_or h header_offsets.events 0)) e.same ∙ le-leb _ _ c.if-h.true)
 
 pub returns : goal.returns
@@ -83,5 +84,5 @@ returns c =
     ∙ c.if-not-lawful_store.false)
     (eq-eqb _ _ c.if-tally.false)
     (ap (λ h. leb (get_or h header_offsets.processes 0) a.process) e.same ∙ lt-leb _ _ c.if-h-process.false)
-    (sym c.is_idle.ensures ∙ c.if-is_idle.false)
+    (search rules)
     (ap (λ h. leb (get_or h header_offsets.limit 0) (get_or h header_offsets.events 0)) e.same ∙ lt-leb _ _ c.if-h.false)

@@ -3,15 +3,15 @@ use native.Mathlib.Omega.{arith}
 use Rattle.sheet.proofs.Paging.{page}
 use Rattle.sheet.proofs.pages.play_page.Goals as goal
 
-pub returns-clause-out_after : goal.returns-clause-out_after
-returns-clause-out_after c =
+pub returns-clause-plays : goal.returns-clause-plays
+returns-clause-plays c =
     let a = c.args in
     let called = c.play-p in
     let e = called.ensures in
     let w = e.within (record { read = omega arith; next = omega arith }) in
     let laws = page a.r a.bytes.now a.nodes.now a.versions.now a.tally.now a.out.now
     called.new.nodes called.new.versions called.new.tally called.new.out
-    called.result e.out_after c.requires.in_buffer w c.requires.longest_command_in_bounds in
+    called.result e.plays c.requires.in_buffer w c.requires.longest_command_in_bounds in
     laws.0
 
 pub returns-clause-ready : goal.returns-clause-ready
@@ -22,5 +22,5 @@ returns-clause-ready c =
     let w = e.within (record { read = omega arith; next = omega arith }) in
     let laws = page a.r a.bytes.now a.nodes.now a.versions.now a.tally.now a.out.now
     called.new.nodes called.new.versions called.new.tally called.new.out
-    called.result e.out_after c.requires.in_buffer w c.requires.longest_command_in_bounds in
+    called.result e.plays c.requires.in_buffer w c.requires.longest_command_in_bounds in
     laws.1

@@ -1,15 +1,13 @@
 -- Bytes only where they are needed.
-use Rattle.sheet.proofs.Running.{supplies_bytes, supplies_nothing, supplies_page, supplies_over}
+use Rattle.std.proofs.Common.{rules, sym, ◌∙◌}
+use denote.Enum.Bare.{same_true, same_false}
+use Rattle.interpreter.specs.contracts.types.Needs.{the_type}
+use Rattle.sheet.proofs.Running.{supplies_bytes, supplies_none}
 use Rattle.sheet.proofs.pages.supply.Goals as goal
 
-pub returns-in-Bytes-clause-supplies : goal.returns-in-Bytes-clause-supplies
-returns-in-Bytes-clause-supplies c = supplies_bytes c.args.r _ _ _ c.in-Bytes.is c.refill.ensures.refilled
+pub returns-then-eq-clause-supplies : goal.returns-then-eq-clause-supplies
+returns-then-eq-clause-supplies c =
+    supplies_bytes c.args.r _ _ _ (same_true the_type (search rules) _ _ (sym c.eq.ensures ∙ c.if-eq.true)) c.refill.ensures.refilled
 
-pub returns-in-Nothing-clause-supplies : goal.returns-in-Nothing-clause-supplies
-returns-in-Nothing-clause-supplies c = supplies_nothing c.args.r _ c.in-Nothing.is
-
-pub returns-in-Page-clause-supplies : goal.returns-in-Page-clause-supplies
-returns-in-Page-clause-supplies c = supplies_page c.args.r _ c.in-Page.is
-
-pub returns-in-Over-clause-supplies : goal.returns-in-Over-clause-supplies
-returns-in-Over-clause-supplies c = supplies_over c.args.r _ c.in-Over.is
+pub returns-clause-supplies : goal.returns-clause-supplies
+returns-clause-supplies c = supplies_none c.args.r _ (same_false the_type _ _ (sym c.eq.ensures ∙ c.if-eq.false))

@@ -3,36 +3,37 @@ use Rattle.model.specs.Calls.{open_by, open_of}
 use Rattle.refusals.proofs.Laws.{may_open}
 use borrow.Author.Rules.{rules}
 use Rattle.store.proofs.open.open.Goals as goal
+use Rattle.std.specs.Prelude.{Ok, Err}
 
 pub overflow_cast-lengths : goal.overflow_cast-lengths
 overflow_cast-lengths c =
     let a = c.args in
-    let f = may_open _ _ a.processes a.limit c.open_permit-permit.ensures c.in-Granted.is in
+    let f = may_open _ _ a.processes a.limit c.open_permit.ensures c.in-Ok.is in
     search rules
 
-pub overflow_cast-lengths-in-Granted : goal.overflow_cast-lengths-in-Granted
-overflow_cast-lengths-in-Granted c =
+pub overflow_cast-lengths-in-Ok : goal.overflow_cast-lengths-in-Ok
+overflow_cast-lengths-in-Ok c =
     let a = c.args in
-    let f = may_open _ _ a.processes a.limit c.open_permit-permit.ensures c.in-Granted.is in
+    let f = may_open _ _ a.processes a.limit c.open_permit.ensures c.in-Ok.is in
     search rules
 
 pub clear_nodes-requires : goal.clear_nodes-requires
 clear_nodes-requires c =
     let a = c.args in
-    let f = may_open _ _ a.processes a.limit c.open_permit-permit.ensures c.in-Granted.is in
+    let f = may_open _ _ a.processes a.limit c.open_permit.ensures c.in-Ok.is in
     search rules
 
-pub returns-in-Denied : goal.returns-in-Denied
+pub returns-in-Err : goal.returns-in-Err
 unfolding open_of open_by
-returns-in-Denied c = simp (c.closed-state.ensures, ← c.open_permit-permit.ensures, c.in-Denied.is)
+returns-in-Err c = simp (c.closed.ensures, ← c.open_permit.ensures, c.in-Err.is)
 
-pub returns-in-Granted : goal.returns-in-Granted
+pub returns-in-Ok : goal.returns-in-Ok
 unfolding open_of open_by
-returns-in-Granted c =
+returns-in-Ok c =
     simp (
-      c.fresh-state.ensures,
-      c.clear.ensures,
+      c.fresh.ensures,
+      c.fill.ensures.after (λ y h. h),
       c.clear_nodes.ensures,
-      ← c.open_permit-permit.ensures,
-      c.in-Granted.is,
+      ← c.open_permit.ensures,
+      c.in-Ok.is,
     )

@@ -6,30 +6,31 @@ use mathlib.Core.Path.{sym}
 use borrow.Author.Rules.{rules}
 use Rattle.calls.proofs.Places.{slot_own}
 use Rattle.store.proofs.start.start.Goals as goal
+use Rattle.std.specs.Prelude.{Ok, Err}
 
 -- in each, the permit is the definition's: the kind was read at the process's own place
 pub overflow_add-tick : goal.overflow_add-tick
 overflow_add-tick c =
     let a = c.args in
-    let is = c.start_permit-permit.ensures a.s
+    let is = c.start_permit.ensures a.s
     (record { same = sym c.header_of-h.ensures; found = λ h. simp (slot_own _ _ c.slot-i.ensures h) }) in
-    let f = may_start _ _ _ _ _ _ is c.in-Granted.is in
+    let f = may_start _ _ _ _ _ _ is c.in-Ok.is in
     search rules
 
-pub returns-in-Denied : goal.returns-in-Denied
+pub returns-in-Err : goal.returns-in-Err
 unfolding start_by
-returns-in-Denied c =
+returns-in-Err c =
     let a = c.args in
-    let is = c.start_permit-permit.ensures a.s
+    let is = c.start_permit.ensures a.s
     (record { same = sym c.header_of-h.ensures; found = λ h. simp (slot_own _ _ c.slot-i.ensures h) }) in
-    simp (← is, c.in-Denied.is)
+    simp (← is, c.in-Err.is)
 
-pub returns-in-Granted : goal.returns-in-Granted
+pub returns-in-Ok : goal.returns-in-Ok
 unfolding start_by
-returns-in-Granted c =
+returns-in-Ok c =
     let a = c.args in
-    let is = c.start_permit-permit.ensures a.s
+    let is = c.start_permit.ensures a.s
     (record { same = sym c.header_of-h.ensures; found = λ h. simp (slot_own _ _ c.slot-i.ensures h) }) in
-    let f = may_start _ _ _ _ _ _ is c.in-Granted.is in
+    let f = may_start _ _ _ _ _ _ is c.in-Ok.is in
     let i = slot_own _ _ c.slot-i.ensures (omega arith) in
-    simp (c.begin.ensures, i, ← is, c.in-Granted.is)
+    simp (c.begin.ensures, i, ← is, c.in-Ok.is)
