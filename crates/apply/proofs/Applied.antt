@@ -10,7 +10,7 @@ use lib.Seq.{sets}
 use Rattle.model.specs.declared.types.Cursor.{Cursor}
 use Rattle.model.specs.declared.types.Answer.{Answer}
 use Rattle.model.specs.declared.types.Item.{Item}
-use Rattle.model.specs.declared.types.Move.TheVariants.{Go, Note, Commit, Show}
+use Rattle.model.specs.declared.types.Move.TheVariants.{Wait, Go, Note, Commit, Show}
 use Rattle.model.specs.Calls.{process_after}
 use Rattle.process.specs.ProcessWords.{sizes, process_offsets, call_words, cursor_words, effect_words, process_words, process_from, known_process}
 use Rattle.process.proofs.RoundTrip.{process_back}
@@ -29,6 +29,10 @@ put_pred w l x = set w (process_offsets.preds + l) x
 module _ (w : List ℕ) (long : length w ≡ sizes.process) (known : known_process w ≡ true) (tick : ℕ) where
   same : w ≡ process_words (process_from w)
   same = sym (process_back w long known)
+
+  pub stays_waiting : w ≡ process_words (process_after tick (process_from w) Wait)
+  unfolding process_after
+  stays_waiting = same
 
   pub goes : (c : Cursor) → put_cursor w c ≡ process_words (process_after tick (process_from w) (Go c))
   unfolding process_after

@@ -1,5 +1,5 @@
 -- A part of the words, written and put back with the event, is what the move leaves.
-use Rattle.std.specs.Prelude.{Ok}
+use Rattle.std.specs.Prelude.{Ok, Err}
 use Rattle.model.specs.Types.{Stepping}
 use Rattle.model.specs.declared.types.Progress.{Progress}
 use Rattle.model.specs.declared.types.Item.{Item}
@@ -14,7 +14,8 @@ use borrow.Rule.Slice.PartMut.{put_mid, put_same}
 use Rattle.model.specs.declared.types.Counts.{Counts}
 use Rattle.model.specs.declared.types.Cursor.{Cursor}
 use Rattle.model.specs.declared.types.Move.{Move}
-use Rattle.model.specs.declared.types.Move.TheVariants.{Wait, Go, Show}
+use Rattle.model.specs.declared.types.Move.TheVariants.{Refuse, Wait, Go, Show}
+use Rattle.model.specs.declared.types.Refusal.TheVariants.{Damaged}
 use Rattle.model.specs.Calls.{process_after, outcome_of, tally_after}
 use Rattle.model.specs.Phases.{refuses}
 use Rattle.process.specs.ProcessWords.{sizes, process_words, process_from, known_process}
@@ -37,6 +38,11 @@ put_sets w part at l h =
 module _ (w tally : List ℕ) (at tick : ℕ) (counts : Counts) where
   abbrev lent_part : List ℕ
   lent_part = take (at + sizes.process - at) (drop at w)
+
+  -- a refusal leaves all as it was
+  pub left_refused : record { outcome = Err Damaged; words = w; tally = tally } ≡ leave_in tick counts Refuse w at tally
+  unfolding outcome_of tally_after
+  left_refused = refl
 
   module _ (fits : at + sizes.process ≤ length w) where
     -- what the move leaves of the process, in its part, and the event

@@ -1,8 +1,8 @@
--- What four bytes more do to a number.
+-- What one byte more does to a number, and four more.
 use Prim.Native.Nat.{ℕ, ◌+◌, ◌*◌, ◌^◌, ◌<◌, ◌≤◌}
 use mathlib.Core.Path.{◌≡◌, refl, ap, ◌∙◌}
 use mathlib.Core.List.{List, [], ◌∷◌, ◌++◌}
-use native.Mathlib.Nat.{pow-le-pow_right}
+use native.Mathlib.Nat.{pow-suc, pow-le-pow_right}
 use native.Mathlib.Numerals.{add-one}
 use native.Mathlib.Omega.{arith}
 use lib.Dec.{lit<}
@@ -10,6 +10,10 @@ use lib.ListN.{length, take, drop, get_or, length-drop, drop_of_length-le}
 use lib.Seq.{drop-cons, take-add, length-take-le}
 use Rattle.model.specs.Layout.{joined}
 use Rattle.decoder.specs.Commands.{big_endian_from, big_endian}
+
+-- one byte more
+pub byte_below : (n k b : ℕ) → n < 256 ^ k → b < 256 → 256 * n + b < 256 ^ (k + 1)
+byte_below n k b h l = rw (add-one, pow-suc) (omega arith)
 
 -- three bytes leave room for a fourth in 32 bits
 pub three_below : (n k : ℕ) → n < 256 ^ k → k < 4 → n < 2 ^ 24

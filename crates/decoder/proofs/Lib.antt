@@ -2,3 +2,4 @@ pub mod Bytes
 pub mod Decoding
 pub mod Examples
 pub mod Pieces
+pub mod Positions

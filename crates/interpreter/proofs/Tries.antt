@@ -2,7 +2,7 @@
 use Prim.Native.Nat.{ℕ, ◌+◌, ◌-◌, ◌≤◌}
 use mathlib.Core.Bool.{Bool, true, false}
 use mathlib.Core.List.{List}
-use mathlib.Core.Path.{◌≡◌, refl, ◌∙◌}
+use mathlib.Core.Path.{◌≡◌, refl, ap, ◌∙◌}
 use native.Mathlib.Omega.{arith}
 use lib.Dec.{leb}
 use lib.ListN.{length, drop, length-drop}
@@ -13,7 +13,7 @@ use Rattle.decoder.specs.declared.types.DecodeError.TheVariants.{Unknown, Short,
 use Rattle.decoder.specs.Commands.{command_from}
 use Rattle.decoder.proofs.Pieces as pieces
 use Rattle.ending.specs.declared.types.Rest.{Rest}
-use Rattle.ending.specs.declared.types.Rest.TheVariants.{Next}
+use Rattle.ending.specs.declared.types.Rest.TheVariants.{Next, More, Over}
 use Rattle.ending.specs.Rest.{rest_by, rest_of}
 use Rattle.printer.specs.Lines.{room}
 use Rattle.interpreter.specs.declared.types.Needs.{Needs}
@@ -41,6 +41,19 @@ module _ (bytes : List ℕ) (ended : Bool) (p : Played) (nodes versions tally ou
       → q ≡ play_one bytes ended now
   unfolding play_one
   plays q x f h e = e ∙ simp (f, ← h)
+
+  -- what is left of the bytes is the start of a command, or the sheet is over: the run stays where it is
+  pub needs_bytes : (r : Played) → r ≡ stayed p Needs.Bytes → fits ≡ true → More ≡ rest_of bytes p.read ended
+      → playing r nodes versions tally out ≡ play_one bytes ended now
+  needs_bytes r e f h = plays _ More f h (ap (λ (x : Played). playing x nodes versions tally out) e)
+
+  pub is_over_lem : (r : Played) → r ≡ stayed p Needs.Over → fits ≡ true → Over ≡ rest_of bytes p.read ended
+      → playing r nodes versions tally out ≡ play_one bytes ended now
+  is_over_lem r e f h = plays _ Over f h (ap (λ (x : Played). playing x nodes versions tally out) e)
+
+-- a run that stays is within its bytes and its page
+pub stays_within : {bytes out : List ℕ} (p r : Played) (n : Needs) → r ≡ stayed p n → Within p bytes out → Within r bytes out
+stays_within p r n e h = rw e (record { read = h.read; next = h.next })
 
 -- a page of the same length
 pub same_page : {bytes out out' : List ℕ} (r : Played) → length out ≡ length out' → Within r bytes out → Within r bytes out'

@@ -1,12 +1,12 @@
 -- Processes known one after another.
-use Prim.Native.Nat.{ℕ, zero, suc, ◌+◌, ◌*◌, ◌-◌, ◌≤◌, min}
+use Prim.Native.Nat.{ℕ, zero, suc, ◌+◌, ◌*◌, ◌-◌, ◌≤◌, ◌<◌, min}
 use mathlib.Core.Bool.{Bool, true, false, ◌&&◌, and-eq-true_iff}
 use mathlib.Core.List.{List, [], ◌∷◌}
 use mathlib.Core.Path.{◌≡◌, refl, sym, ap, ◌∙◌}
 use native.Mathlib.Omega.{arith}
 use lib.Dec.{eqb, ltb, leb}
 use lib.ListN.{length, get_or, take, drop, length-drop, drop_of_length-le}
-use lib.Seq.{length-take-le}
+use lib.Seq.{length-take-le, drop-drop}
 use borrow.Author.Tests.{eqb-true, eq-eqb, ltb-true, ltb-false, leb-true}
 use Rattle.model.specs.Layout.{limits}
 use Rattle.std.specs.Prelude.{if◌then◌else◌}
@@ -20,6 +20,27 @@ part_is w at = let e : at + sizes.process - at ≡ sizes.process = omega arith i
 
 pub part_long : (w : List ℕ) (at : ℕ) → at + sizes.process ≤ length w → length (take (at + sizes.process - at) (drop at w)) ≡ sizes.process
 part_long w at h = ap length (part_is w at) ∙ length-take-le sizes.process (drop at w) (rw length-drop (omega (arith, h)))
+
+-- the first of those left decides, and behind it the others
+module _ (w : List ℕ) (at left : ℕ) (some : 0 < left) (b : Bool) (found : b ≡ known_process (take (at + sizes.process - at)
+    (drop at w))) where
+  first : known_process (take sizes.process (drop at w)) ≡ b
+  first = sym (found ∙ ap known_process (part_is w at))
+
+  split : (m : ℕ) → left ≡ suc m → all_known left (drop at w) ≡ (if b then all_known m (drop (at + sizes.process) w) else false)
+  unfolding all_known
+  split m e = rw (e, first, drop-drop)
+
+  pub unknown_first : b ≡ false → false ≡ all_known left (drop at w)
+  unknown_first e = sym (split (left - 1) (omega (arith, some)) ∙ rw e)
+
+  pub known_first : b ≡ true → all_known (left - 1) (drop (at + sizes.process) w) ≡ all_known left (drop at w)
+  known_first e = sym (split (left - 1) (omega (arith, some)) ∙ rw e)
+
+-- with no process left all are known
+pub none_left : (w : List ℕ) (left : ℕ) → left ≡ 0 → true ≡ all_known left w
+unfolding all_known
+none_left w left e = rw e
 
 -- past the last process there are no words
 pub none_known : (n : ℕ) → true ≡ all_known n []

@@ -83,12 +83,16 @@ pub fn counts_in(words: &[u32; Sizes::STATE]) -> Counts
     }
 }
 
-// The processes, one after another.
-#[tactic(auto, unfolding(crate::specs::StateWords::all_from))]
+// The processes, one after another, read into a table of idle ones. No `map`: the arrays that it makes are copied whole, which takes
+// more than twice the stack, and calls of `memcpy` that whoever links the archive would have to bring.
 fn processes_in(words: &[u32; Sizes::STATE]) -> [Process; State::PROCESSES as usize]
     ensures { result ≡ all_from limits.processes (drop sizes.head words.now) }
 {
-    processes(words).each_ref().map(process_in)
+    let mut process = [Process::idle(); State::PROCESSES as usize];
+    for i in 0..State::PROCESSES {
+        process[i as usize] = process_in(process_at(words, i));
+    }
+    process
 }
 
 #[tactic(auto, unfolding(crate::specs::StateWords::state_from))]
@@ -119,11 +123,14 @@ fn put_head(words: &mut [u32; Sizes::STATE], s: State)
     words[HeadOffsets::HEADER..Sizes::HEAD].copy_from_slice(&header_of(s));
 }
 
-#[tactic(auto, unfolding(crate::specs::StateWords::all_words))]
+// Each is written where it stands, and not by `map`, for the same reason.
 fn put_processes(words: &mut [u32; Sizes::STATE], process: [Process; State::PROCESSES as usize])
     ensures { words.new ≡ take sizes.head words.old ++ all_words process }
 {
-    words[Sizes::HEAD..].copy_from_slice(process.map(words_of).as_flattened());
+    for i in 0..State::PROCESSES {
+        let at = Sizes::HEAD + Sizes::PROCESS * i as usize;
+        words[at..at + Sizes::PROCESS].copy_from_slice(&words_of(process[i as usize]));
+    }
 }
 
 pub fn put_state(words: &mut [u32; Sizes::STATE], s: State)

@@ -1,4 +1,4 @@
--- A law of the tests of refusal 10: a length divided once.
+-- Laws of the tests of refusal 10: the order in which they are asked, and a length divided once.
 use Prim.Native.Nat.{ℕ, ◌+◌, ◌*◌, ◌/◌, ◌<◌}
 use mathlib.Core.Bool.{Bool, true, false, ◌&&◌, and-eq-true_iff}
 use mathlib.Core.Path.{◌≡◌, refl, sym}
@@ -8,6 +8,18 @@ use lib.Dec.{leb, ltb, eqb}
 use Rattle.model.specs.Layout.{capacity}
 use Rattle.model.specs.State.{within, lawful_length}
 use Rattle.model.proofs.Tests.{leb_iff, eqb_iff}
+
+-- one test that fails is enough
+pub and-false : (b : Bool) → (b && false) ≡ false
+and-false true = refl
+and-false false = refl
+
+-- four tests after others, taken two by two: the first with the third
+pub in_pairs : (before a b c d : Bool) → before && a && b && c && d ≡ before && (a && c) && (b && d)
+in_pairs false a b c d = refl
+in_pairs true false b c d = refl
+in_pairs true true false c d = sym (and-false c)
+in_pairs true true true c d = refl
 
 -- two tests are equal where each follows from the other
 same_test : (a b : Bool) → (a ≡ true → b ≡ true) → (b ≡ true → a ≡ true) → a ≡ b

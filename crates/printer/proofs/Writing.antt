@@ -1,15 +1,18 @@
 -- One text written behind another, what is left of a text to write, and the digits of a number.
 use Prim.Native.Nat.{ℕ, zero, suc, ◌+◌, ◌-◌, ◌^◌, ◌/◌, ◌%◌, ◌<◌, ◌≤◌}
 use mathlib.Core.Path.{◌≡◌, refl, sym, ap, ◌∙◌}
+use mathlib.Core.Bool.{Bool, true, false}
 use mathlib.Core.List.{List, [], ◌∷◌, ◌++◌, map, append_assoc, append-nil}
-use native.Mathlib.Nat.{add-zero, add-suc, suc-add}
+use native.Mathlib.Nat.{add-zero, add-suc, suc-add, pow-suc}
 use native.Mathlib.Omega.{arith}
+use lib.Dec.{ltb}
 use lib.ListN.{length, set, take, drop, get_or, length-append, length-set, drop_of_length-le}
 use lib.Seq.{sets, sets-eq, length-sets}
 use borrow.Rule.Slice.PartMut.{put_mid, Post-is}
-use borrow.Author.Tests.{lt-ltb, le-ltb}
+use borrow.Author.Tests.{lt-ltb, le-ltb, ltb-true, ltb-false}
 use Rattle.std.specs.Fmt as std
-use Rattle.std.proofs.lemmas.Fmt.{AppendsLastDigit, decimal_from_appends, decimal_step, length-decimal-le, length-decimal-le_succ}
+use Rattle.std.proofs.lemmas.Fmt.{AppendsLastDigit, decimal_from_appends, length-decimal-le, length-decimal-le_succ}
+use Rattle.std.specs.Prelude.{if◌then◌else◌}
 use Rattle.printer.specs.Text.{digit, digits, decimal, line, Wrote}
 use Rattle.printer.specs.Words.{Word, bytes_of, most, room_for}
 
@@ -70,6 +73,10 @@ pub record Left (before out : List ℕ) (start next : ℕ) (whole rest : List �
   pub alike : length out ≡ length before
   pub ends : (after : List ℕ) (k : ℕ) → Wrote out after next k rest → Wrote before after start k whole
 
+-- before the first byte all of it is left
+pub all_left : (out : List ℕ) (start : ℕ) (whole : List ℕ) → Left out out start start whole whole
+all_left out start whole = record { alike = refl; ends = λ after k w. w }
+
 module _ {before out : List ℕ} {start next : ℕ} {whole : List ℕ} where
   pub none_left : Left before out start next whole [] → next ≤ length out → Wrote before out start next whole
   none_left l h = l.ends out next (no_byte out next h)
@@ -110,10 +117,37 @@ pub decimal_short : (n : ℕ) → n < 10 → decimal n ≡ digit n ∷ []
 unfolding decimal
 decimal_short n h = appends.one n n h
 
-pub decimal_long : (n : ℕ) → 10 ≤ n → n < 2 ^ 64 → decimal n ≡ decimal (n / 10) ++ (digit (n % 10) ∷ [])
-decimal_long n h wide =
-    decimal_is n wide ∙ decimal_step n h wide
-    ∙ ap (λ (front : List ℕ). front ++ (digit (n % 10) ∷ [])) (sym (decimal_is (n / 10) (omega arith)))
+-- what stands in front of the last digit, where there is any
+front_alike : (t : Bool) (x y : List ℕ) → (t ≡ false → x ≡ y) → (if t then [] else x) ≡ (if t then [] else y)
+front_alike true x y h = refl
+front_alike false x y h = h refl
+
+-- where the digits are enough, more of them change nothing
+digits_enough : (f g n : ℕ) → n < f → n < g → digits f n ≡ digits g n
+unfolding digits
+digits_enough zero g n h k = elim h [ ]
+digits_enough (suc f) zero n h k = elim k [ ]
+digits_enough (suc f) (suc g) n h k =
+    ap (λ (front : List ℕ). front ++ (digit (n % 10) ∷ []))
+    (front_alike (ltb n 10) (digits f (n / 10)) (digits g (n / 10)) (λ t. digits_enough f g (n / 10) (omega (arith, ltb-false n 10 t)) (omega (arith, ltb-false n 10 t))))
+
+-- a number of two digits or more ends with its last
+pub decimal_long : (n : ℕ) → 10 ≤ n → decimal n ≡ decimal (n / 10) ++ (digit (n % 10) ∷ [])
+unfolding decimal digits
+decimal_long n h =
+    let front : digits n (n / 10) ≡ digits (suc (n / 10)) (n / 10) = digits_enough n (suc (n / 10)) (n / 10) (omega arith) (omega arith) in
+    simp (le-ltb n 10 h, front)
+
+-- a number below 10 ^ (k + 1) has at most k + 1 digits
+pub digits_few : (k n : ℕ) → n < 10 ^ suc k → length (decimal n) ≤ suc k
+digits_few zero n h = rw (decimal_short n h) (omega arith)
+digits_few (suc k) n h =
+    let few = digits_few k (n / 10) (omega (arith, pow-suc 10 (suc k))) in
+    by few (ltb n 10) refl
+  where
+    by : length (decimal (n / 10)) ≤ suc k → (t : Bool) → ltb n 10 ≡ t → length (decimal n) ≤ suc (suc k)
+    by few true e = rw (decimal_short n (ltb-true n 10 e)) (omega arith)
+    by few false e = rw (decimal_long n (ltb-false n 10 e), length-append) (omega arith)
 
 pub decimal_few : (n : ℕ) → n < 2 ^ 32 → length (decimal n) ≤ 10
 decimal_few n h = rw (decimal_is n (omega arith)) (length-decimal-le 10 n (omega arith) (omega arith) (omega arith))
@@ -124,5 +158,5 @@ decimal_wide n h = rw (decimal_is n h) (length-decimal-le 20 n (omega arith) (om
 pub short_length : (n : ℕ) → n < 10 → length (decimal n) ≡ 1
 short_length n h = ap length (decimal_short n h)
 
-pub long_length : (n : ℕ) → 10 ≤ n → n < 2 ^ 64 → length (decimal n) ≡ length (decimal (n / 10)) + 1
-long_length n h wide = ap length (decimal_long n h wide) ∙ length-append (decimal (n / 10)) (digit (n % 10) ∷ [])
+pub long_length : (n : ℕ) → 10 ≤ n → length (decimal n) ≡ length (decimal (n / 10)) + 1
+long_length n h = ap length (decimal_long n h) ∙ length-append (decimal (n / 10)) (digit (n % 10) ∷ [])

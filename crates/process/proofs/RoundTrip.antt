@@ -1,19 +1,19 @@
 -- Words that are a process are the words of the process that they are decoded to, and a process is decoded from its words.
 use Prim.Native.Nat.{ℕ, zero, suc, ◌≤◌, ◌<◌}
 use mathlib.Core.Bool.{Bool, true, false, ◌&&◌, and-eq-true_iff}
-use mathlib.Core.List.{List}
+use mathlib.Core.List.{List, ◌++◌}
 use mathlib.Core.Path.{◌≡◌, refl, sym, ap, ◌∙◌}
 use native.Mathlib.Omega.{arith}
 use lib.Dec.{eqb, ltb}
 use lib.ListN.{length, get_or, drop, length-drop}
-use lib.Seq.{take_all}
+use lib.Seq.{take_all, sets}
 use borrow.Author.Rules.{rules}
 use borrow.Author.Tests.{ltb-true, eqb-true, eqb-false, lt-ltb}
 use Rattle.model.specs.declared.types.Process.{Process}
 use Rattle.model.specs.Layout.{word_size, levels, low_half}
 use Rattle.model.proofs.Laws.{answer_at, answer_below}
 use Rattle.model.proofs.Words.{low_joined, high_joined, joined_halves}
-use Rattle.process.specs.ProcessWords.{sizes, process_offsets, process_words, process_from, known_process}
+use Rattle.process.specs.ProcessWords.{sizes, process_offsets, process_words, process_from, known_process, call_words, cursor_words, effect_words}
 use Rattle.model.specs.declared.types.Kind.{Kind}
 use Rattle.model.specs.declared.types.Phase.{Phase}
 use Rattle.model.specs.Numbers.{answer_number, answers, answer_of, kind_number, kinds, kind_from, phase_number, phases, phase_from}
@@ -113,3 +113,20 @@ process_known p = simp (
   (phase_from_lem p.cursor.phase).1,
   lt-ltb _ _ (answer_below p.effect.answer),
 )
+
+-- ---- all parts written
+
+-- a call, a cursor, an effect and the remembered nodes, each written over its own words
+abbrev written_over : (w : List ℕ) → Process → (preds : List ℕ) → List ℕ
+written_over w p preds =
+    let called = sets w process_offsets.kind (call_words p.call) in
+    let moved = sets called process_offsets.phase (cursor_words p.cursor) in
+    sets (sets moved process_offsets.answer (effect_words p.effect)) process_offsets.preds preds
+
+-- written one after another they leave the words of the process, whatever stood there
+pub over_written : (w : List ℕ) (p : Process) → length w ≡ sizes.process → length p.preds ≡ levels → written_over w p
+    p.preds ≡ process_words p
+over_written w p h k =
+    ap (λ w. written_over w p p.preds) (sym (spelt sizes.process w h))
+    ∙ ap (written_over (heads sizes.process 0 w) p) (sym (spelt levels p.preds k))
+    ∙ ap (λ preds. call_words p.call ++ cursor_words p.cursor ++ effect_words p.effect ++ preds) (spelt levels p.preds k)

@@ -1,6 +1,6 @@
 // One process in its twenty-one words. Process and array are types of other crates, so the conversions are functions and no From.
 ghost use Rattle.std.specs.Prelude.{◌≡◌, length};
-ghost use Rattle.process.specs.ProcessWords.{sizes, process_offsets, cursor_words, effect_words, process_words, process_from, known_process};
+ghost use Rattle.process.specs.ProcessWords.{sizes, process_offsets, call_words, cursor_words, effect_words, process_words, process_from, known_process};
 ghost use Rattle.std.proofs.lemmas.List.Edits.{sets};
 
 use crate::types::{ProcessOffsets, Sizes};
@@ -121,4 +121,20 @@ pub fn put_effect(w: &mut [u32], e: Effect)
 {
     w[ProcessOffsets::ANSWER] = e.answer.number();
     w[ProcessOffsets::TICK] = e.tick;
+}
+
+// A call's words alone: what stands in the process's other words stays, where `words_of` gives all of them.
+pub fn put_call(w: &mut [u32], c: Call)
+    requires { length w.old ≡ sizes.process }
+    ensures { w.new ≡ sets w.old process_offsets.kind (call_words c) }
+{
+    w[ProcessOffsets::KIND] = c.kind.number();
+    w[ProcessOffsets::KEY_LOW] = low_half(c.key);
+    w[ProcessOffsets::KEY_HIGH] = high_half(c.key);
+    w[ProcessOffsets::LAST_LOW] = low_half(c.last);
+    w[ProcessOffsets::LAST_HIGH] = high_half(c.last);
+    w[ProcessOffsets::VALUE] = c.value;
+    w[ProcessOffsets::TIMESTAMP] = c.timestamp;
+    w[ProcessOffsets::TOP] = c.top;
+    w[ProcessOffsets::START] = c.start;
 }

@@ -15,6 +15,20 @@ use Rattle.queries.specs.Found.{node_found}
 
 -- ---- the search
 
+-- one turn of it: x nodes are passed, and k is the key of the next
+module _ (t : List ℕ) (wanted used x k : ℕ) (h : x < used) (e : k ≡ key t (x + 1)) where
+  pub find_hit : k ≡ wanted → find_from t wanted (used - x) (x + 1) ≡ x + 1
+  unfolding find_from
+  find_hit q = let n : used - x ≡ suc (used - (x + 1)) = omega arith in rw n (simp (← e, eq-eqb _ _ q))
+
+  pub find_miss : (k ≡ wanted → ⊥) → find_from t wanted (used - x) (x + 1) ≡ find_from t wanted (used - (x + 1)) (x + 1 + 1)
+  unfolding find_from
+  find_miss q = let n : used - x ≡ suc (used - (x + 1)) = omega arith in rw n (simp (← e, ne_eqb _ _ q))
+
+pub find_end : (t : List ℕ) (wanted used x : ℕ) → used ≤ x → find_from t wanted (used - x) (x + 1) ≡ 0
+unfolding find_from
+find_end t wanted used x h = let n : used - x ≡ 0 = omega arith in rw n
+
 module _ (t : List ℕ) (wanted : ℕ) where
   none_found : (left x : ℕ) → ((j : ℕ) → x ≤ j → j < x + left → key t j ≡ wanted → ⊥) → find_from t wanted left x ≡ 0
   unfolding find_from

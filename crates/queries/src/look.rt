@@ -10,12 +10,15 @@ use refusals::permit::look_permit;
 use tables::nodes::{key_at, newest_at};
 use versiontable::versions::{prev_at, version_at};
 
-// The first node that has the key; `used` is the last node in use.
+// The first node that has the key; `used` is the last node in use. The range is half open: one that includes its end tests two things
+// at each node, and a look took twice as long.
 fn find(nodes: &[u32], used: u32, key: Key) -> Option<u32>
     requires { NodeRoom nodes.now used }
     ensures { result ≡ node_found (find_from nodes.now key used 1) }
 {
-    (1..=used).find(|&x| key_at(nodes, x) == key)
+    (0..used)
+        .find(|&x| key_at(nodes, x + 1) == key)
+        .map(|x| x + 1)
 }
 
 // The version that lies `back` places behind another.

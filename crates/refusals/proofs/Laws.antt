@@ -39,6 +39,9 @@ pub record Condition : Type 0 where
   pub met : Bool
   pub refusal : Refusal
 
+abbrev pub when : Bool → Refusal → Condition
+when b r = record { met = b; refusal = r }
+
 -- refusals put together from the first to the last, as the code does, and as the definitions have them
 abbrev pub forwards : Permit → List Condition → Permit
 forwards p [] = p
@@ -61,6 +64,13 @@ first_by false r cs e = e
 pub first_met : (cs : List Condition) → forwards (Ok tt) cs ≡ nested cs
 first_met [] = refl
 first_met (c ∷ cs) = first_by c.met c.refusal cs (first_met cs)
+
+-- one process less
+pub idle_more : (s : State) (n : ℕ) → 0 < n
+    → idle_below s n ≡ is_idle (process_at s (n - 1)).call.kind && idle_below s (n - 1)
+unfolding idle_below
+idle_more s zero h = absurd (omega arith)
+idle_more s (suc n) h = simp unary_clauses
 
 -- tested one after another from the first, or by number from the last
 pub idle_all : (s : State) (n : ℕ) → n ≤ length s.process → list_all (λ (p : Process). is_idle p.call.kind) (take n s.process) ≡ idle_below s n

@@ -10,12 +10,17 @@ use Rattle.interpreter.specs.Rounds.{is_over}
 use Rattle.std.specs.Prelude.{None, Ok}
 use Rattle.sheet.specs.Runs.{Input}
 use Rattle.sheet.specs.declared.types.Run.{Run}
-use Rattle.sheet.specs.Runs.{first_run, took_of, settled, Memory, memory, Answers}
+use Rattle.sheet.specs.Runs.{Ready, first_run, took_of, settled, Memory, memory, Answers}
 use Rattle.sheet.specs.Runs.{supplied_by, supplied_of, played_of, round_of, rounds_from}
-use Rattle.sheet.specs.Runs.{PageHolds, PagesHold, Refilled, Supplies, Plays, Runs}
-use Rattle.sheet.proofs.Standing.{is_over_lem}
+use Rattle.sheet.specs.Runs.{PageHolds, PagesHold, Refilled, Supplies, Plays, most_rounds, Runs}
+use Rattle.sheet.proofs.Standing.{nothing_needed, page_needed, over_needs, over, is_over_lem}
 
 -- ---- a write
+
+-- a run is ready after a page that was written, and after one that was not
+pub settled_ready : (written : Bool) (q r : Run) (size : ℕ) → q ≡ settled written r → Ready r size → Ready q size
+settled_ready true q r size e h = rw e h
+settled_ready false q r size e h = rw e (over _ size (record { from = h.inside.from; end = h.inside.end }) refl).0
 
 pub settled_plays : (m : Memory) (written : Bool) (q q' : Run) (bytes nodes versions tally out : List ℕ)
     → memory q bytes nodes versions tally out ≡ played_of m true → q' ≡ settled written q → q.next ≤ length m.out
@@ -57,6 +62,16 @@ supplies_none r bytes h = record {
   behind = [];
   same = λ nodes versions tally out. sym (supplied_none r.needs (memory r bytes nodes versions tally out) h);
 }
+
+module _ (r : Run) (bytes : List ℕ) where
+  pub supplies_nothing : r.needs ≡ Needs.Nothing → Supplies r r bytes bytes
+  supplies_nothing e = supplies_none r bytes (nothing_needed r e)
+
+  pub supplies_page : r.needs ≡ Needs.Page → Supplies r r bytes bytes
+  supplies_page e = supplies_none r bytes (page_needed r e)
+
+  pub supplies_over : r.needs ≡ Needs.Over → Supplies r r bytes bytes
+  supplies_over e = supplies_none r bytes (over_needs r e)
 
 -- ---- rounds
 
@@ -121,3 +136,12 @@ module _ (m₀ m : Memory) (made : ℕ) (ran : Ran m₀ m made) where
       holds = held (answers true) (λ off. absurd (true≢false (sym (needs_so true o) ∙ off)));
       over = λ n. absurd (n (is_over_lem m'.run.needs o));
     }
+
+-- a run that made as many rounds as any does
+pub all_made : (m₀ m : Memory) (made : ℕ) → made ≡ most_rounds → Ran m₀ m made → Runs m₀ m
+all_made m₀ m made all ran = record {
+  answers = ran.answers;
+  same = ran.same;
+  holds = ran.holds;
+  over = λ n. ran.count ∙ all;
+}

@@ -1,5 +1,5 @@
 -- The program's run: its bytes lie in a buffer, of which a round plays those that are held.
-use Rattle.std.specs.Prelude.{ℕ, ◌+◌, ◌-◌, ◌≤◌, ◌<◌, Bool, true, false, List, [], ◌∷◌, ◌++◌, ◌≢◌, ◌≡◌, eqb, length, take, drop, Option, Some, None, Result, Ok, Err}
+use Rattle.std.specs.Prelude.{ℕ, ◌+◌, ◌-◌, ◌≤◌, ◌<◌, min, Bool, true, false, List, [], ◌∷◌, ◌++◌, ◌≢◌, ◌≡◌, eqb, length, take, drop, Option, Some, None, Result, Ok, Err}
 use Rattle.model.specs.declared.types.State.{State}
 use Rattle.std.specs.Prelude.{if◌then◌else◌}
 use Rattle.printer.specs.Lines.{room}
@@ -39,9 +39,10 @@ first_run = record { state = first_session.state; from = 0; end = 0; ended = fal
 abbrev pub Input : Type 0
 Input = Result (Option ℕ) Failed
 
--- what the number of bytes means that a read answers: "0 at the end of the input"
-abbrev pub input_of : (count : ℕ) → Option ℕ
-input_of count = if eqb count 0 then None else Some count
+-- what a read's answer means that had room for so many bytes: "0 at the end of the input"; or it failed
+abbrev pub input_of : (got : Result ℕ Failed) → (room : ℕ) → Input
+input_of (Ok n) room = if eqb (min n room) 0 then Ok None else Ok (Some (min n room))
+input_of (Err e) room = Err e
 
 -- no more bytes than there is room for
 abbrev pub InRoom : ℕ → Input → Type 0

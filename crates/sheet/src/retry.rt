@@ -32,11 +32,13 @@ fn tell(rt: &HostRuntime, what: &str, error: &io::Error) {
     };
 }
 
-// What a read brought that answered `count`.
-fn input(count: usize) -> Option<usize>
-    ensures { result ≡ input_of count }
+// What a read into `buf` brought that answered `got`.
+fn input(got: Result<usize, Failed>, buf: &[u8]) -> Input
+    ensures value { result ≡ input_of got (length buf.now) }
+    ensures in_room { InRoom (length buf.now) result }
 {
-    if count == 0 { None } else { Some(count) }
+    let count = got?.min(buf.len());
+    Ok(if count == 0 { None } else { Some(count) })
 }
 
 // Reads what there is, at most as much as `buf` has room for. A proved loop has to end, so it counts its tries up to a
@@ -46,11 +48,11 @@ pub fn read(rt: &HostRuntime, buf: &mut [u8]) -> Input
 {
     for _ in 0..u64::MAX {
         match rt.stdin().read(buf) {
-            Ok(count) => return Ok(input(count)),
+            Ok(count) => return input(Ok(count), buf),
             Err(error) => {
                 if !again(&error) {
                     tell(rt, "standard input", &error);
-                    return Err(Failed);
+                    return input(Err(Failed), buf);
                 }
             }
         }

@@ -1,4 +1,4 @@
--- What a lawful process tells, and its test where the process was read in its parts.
+-- What a lawful process tells, and a phase and the test of a process that was read in its parts.
 use Prim.Native.Nat.{ℕ, ◌≤◌}
 use mathlib.Core.Bool.{Bool, true, false, and-eq-true_iff}
 use mathlib.Core.List.{List}
@@ -21,7 +21,17 @@ pub lawful_facts : (p : Process) (m : Memory) → lawful_process p m ≡ true
 unfolding lawful_process
 lawful_facts p m h = let f = simp (and-eq-true_iff, leb_iff) at h in (f.0.0, f.0.1)
 
--- the test of a process that was read in its parts
+-- a phase of a process that was read in its parts
+pub phase_by : (q : Process) (call : Call) (c : Cursor) (e : Effect) (preds : List ℕ) (holder tick : ℕ) (m : Memory) (left : Moved)
+    → call ≡ q.call → c ≡ q.cursor → e ≡ q.effect → preds ≡ q.preds
+    → left ≡ phase_of c.phase holder tick (process call c e preds) m → left ≡ phase_of q.cursor.phase holder tick q m
+phase_by q call c e preds holder tick m left is_call is-cursor is-effect is-preds x =
+    x ∙ ap (λ call. phase_of c.phase holder tick (process call c e preds) m) is_call
+    ∙ ap (λ c. phase_of c.phase holder tick (process q.call c e preds) m) is-cursor
+    ∙ ap (λ e. phase_of q.cursor.phase holder tick (process q.call q.cursor e preds) m) is-effect
+    ∙ ap (λ preds. phase_of q.cursor.phase holder tick (process q.call q.cursor q.effect preds) m) is-preds
+
+-- and the test of it
 pub lawful_by : (q : Process) (call : Call) (c : Cursor) (e : Effect) (m : Memory) (b : Bool) → call ≡ q.call → c ≡ q.cursor
     → e ≡ q.effect → b ≡ lawful_process (process call c e q.preds) m → b ≡ lawful_process q m
 lawful_by q call c e m b is_call is-cursor is-effect x =

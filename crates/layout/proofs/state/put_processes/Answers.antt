@@ -1,23 +1,36 @@
--- The words of each.
-use Prim.Native.Nat.{◌≤◌}
-use mathlib.Core.List.{[], ◌++◌, append-nil}
-use mathlib.Core.Path.{◌≡◌, ap, ◌∙◌}
+-- Those written stand at the front.
+use Prim.Native.Nat.{◌+◌, ◌*◌}
+use mathlib.Core.Path.{◌≡◌, refl, sym, ◌∙◌}
+use mathlib.Core.List.{append-nil}
 use native.Mathlib.Omega.{arith}
-use lib.ListN.{length, take, drop, length-drop, drop_of_length-le}
+use lib.ListN.{length, take}
 use borrow.Author.Rules.{rules}
-use Rattle.std.specs.List.{flat_map}
-use Rattle.process.specs.ProcessWords.{sizes, process_words}
-use Rattle.layout.proofs.Parts.{mapped, words_joined}
+use Rattle.model.specs.Layout.{limits}
+use Rattle.process.specs.ProcessWords.{sizes}
 use Rattle.layout.specs.StateWords.{all_words}
+use Rattle.layout.proofs.Known.{part_long}
+use Rattle.layout.proofs.Whole.{write_next, write_all}
 use Rattle.layout.proofs.state.put_processes.Goals as goal
+
+pub loop-i-init : goal.loop-i-init
+unfolding all_words
+loop-i-init c = (search rules, sym (append-nil (take sizes.head c.args.words.now)))
+
+pub loop-i-preserved : goal.loop-i-preserved
+loop-i-preserved c =
+    let l = c.loop-i in
+    let a = c.args in
+    let at = sizes.head + sizes.process * l.i in
+    let eight : length a.process ≡ limits.processes = search rules in
+    let f = write_next (take sizes.head a.words.now) a.process eight l.words _ at l.i _
+    c.loop-i-test.true refl l.invariant.0 (c.copy_from_slice.ensures.len ∙ part_long l.words at (omega (arith, l.invariant.0, c.loop-i-test.true)))
+    (c.copy_from_slice.ensures.after ∙ c.words_of.ensures) l.invariant.1 in
+    (f.0, f.1)
 
 pub returns : goal.returns
 returns c =
-    let w = c.args.words.now in
-    let each = mapped process_words c.args.process c.map.result (search rules) (λ i d e k. search (c.map.ensures.items.at i d e, rules)) in
-    let after : c.copy_from_slice.new.self ≡ all_words c.args.process =
-    c.copy_from_slice.ensures.after ∙ c.as_flattened.ensures.value ∙ ap (flat_map (λ x. x)) each ∙ words_joined c.args.process in
-    let none : drop 168 (drop sizes.head w) ≡ [] = let long : length (drop sizes.head w) ≤ 168 = rw length-drop (omega (arith, c.told-words)) in drop_of_length-le (drop sizes.head w) long in
-    ap (λ v. take sizes.head w ++ (v ++ drop 168 (drop sizes.head w))) after
-    ∙ ap (λ r. take sizes.head w ++ (all_words c.args.process ++ r)) none
-    ∙ ap (λ r. take sizes.head w ++ r) (append-nil (all_words c.args.process))
+    let l = c.loop-i in
+    let a = c.args in
+    let eight : length a.process ≡ limits.processes = search rules in
+    let e : l.i ≡ limits.processes = search rules in
+    write_all (take sizes.head a.words.now) a.process eight l.words l.i (omega (arith, e)) (omega (arith, e)) l.invariant.0 l.invariant.1

@@ -15,14 +15,14 @@ returns-then-n-lt10 t c =
     rw (decimal_short a.n c.if-n-lt10.true) (one_byte a.out.now a.at (digit a.n) (omega arith))
 
 pub put_decimal-last-requires : goal.put_decimal-last-requires
-put_decimal-last-requires t c = let more = long_length c.args.n c.if-n-lt10.false c.ranges.n.fits in (omega arith, omega arith)
+put_decimal-last-requires t c = let more = long_length c.args.n c.if-n-lt10.false in (omega arith, omega arith)
 
 pub bounds-out-last : goal.bounds-out-last
-bounds-out-last t c = let more = long_length c.args.n c.if-n-lt10.false c.ranges.n.fits in omega arith
+bounds-out-last t c = let more = long_length c.args.n c.if-n-lt10.false in omega arith
 
 pub returns : goal.returns
 returns t c =
     let a = c.args in
     let p = c.put_decimal-last in
-    let more = long_length a.n c.if-n-lt10.false c.ranges.n.fits in
-    rw (decimal_long a.n c.if-n-lt10.false c.ranges.n.fits) (behind p.ensures (one_byte p.new.out p.result (digit (a.n % 10)) (omega arith)))
+    let more = long_length a.n c.if-n-lt10.false in
+    rw (decimal_long a.n c.if-n-lt10.false) (behind p.ensures (one_byte p.new.out p.result (digit (a.n % 10)) (omega arith)))
