@@ -12,7 +12,7 @@ use printer::print::has_room;
 use printer::types::Line;
 
 // A whole command: it is performed and its line printed, and the next one stands at `read`. Not inlined: else a program has the copies of
-// the state that a command takes, seven kilobytes, on its stack while a read fails and is told.
+// the state that a command takes, six kilobytes, on its stack while a read fails and is told.
 #[inline(never)]
 fn play_command(
     p: Played,
